@@ -4,7 +4,7 @@
 //! A program whose threads share a pool has three parts: a manager, which opens and checks connections (`ManageConnection`); a service,
 //! which says what is done before the threads run, in each, and after them (`Service`); and a `main`, which builds the pool and runs the
 //! service over it (`Builder::serve`). No proof file belongs to them. `./new NAME` at the top of the repository makes such a program, with its
-//! line of `crates.txt`, `NAME: bb8 futures`. `crates/bb8_service` is one over the kit's `sqlite`. Its `main` has
+//! line of `crates.txt`, `NAME: bb8 bb8_blocking`. `crates/bb8_service` is one over the kit's `sqlite`. Its `main` has
 //!
 //! ```text
 //! let outcome = Builder::new()

@@ -1,7 +1,8 @@
 -- How many connections are out of the pool, step by step.
-use Rattle.bb8_core.proofs.Words.{◌≡◌, ℕ, ◌+◌, ◌-◌, ◌≤◌, length, true, false, Some, refl, sym, ap, ◌∙◌, subst, arith, Act, Begin, Answer, Unfit, Guarded, Held, Ledger, Later, start, records, conns, idle, idle_count, out, Row, waits_on, serves, takes_out, waits, checks, check_fails, gives_up_kept, gives_up_closed, keeps, returns_closed, fills, claims, opens, opens_late, fails, adds, reaps, leaves, fits, Allowed, IsLegal, Lent, StateView, shown_beside, Meets, HasLedger, idle_tally, conns_split, each_allowed, returns_turn, closes_turn, opens_turn, ends_turn, idle_turns, unclaimed_turns, stays_sized, turned_sized, adds_sized, granted_sized, reaped_sized, granted_reaped, left_sized, checks_turn, drops_turn, hands_in_turn, all_fit}
-use Rattle.bb8_core.specs.Parts.{out_of, Moves, IsCounted}
-use Rattle.bb8_core.proofs.Fitting.{shown}
+use Rattle.bb8_core.proofs.Words.{◌≡◌, ℕ, ◌+◌, ◌-◌, ◌≤◌, length, true, false, Some, refl, sym, ap, ◌∙◌, subst, arith, Act, Begin, Try, CheckedErr, GiveUp, PutBack, Answer, Begun, Served, Taken, Kept, Closed, Unfit, Guarded, Held, Ledger, Later, records, conns, idle, idle_count, out, Row, waits_on, serves, takes_out, waits, checks, check_fails, gives_up_kept, gives_up_closed, keeps, returns_closed, fills, claims, opens, opens_late, fails, adds, reaps, leaves, fits, Allowed, IsLegal, Lent, StateView, shown_beside, Meets, HasLedger, idle_tally, conns_split, each_allowed, returns_turn, closes_turn, opens_turn, ends_turn, idle_turns, unclaimed_turns, stays_sized, turned_sized, adds_sized, granted_sized, reaped_sized, granted_reaped, left_sized, checks_turn, drops_turn, hands_in_turn}
+use Rattle.bb8_core.specs.Parts.{out_of, IsCounted}
+use Rattle.bb8_core.proofs.Fitting.{shown, as_shown}
+use Rattle.bb8_core.proofs.Steps.{led}
 
 module _ {C : Type 0} where
   -- what is out in a ledger, by what it shows
@@ -11,13 +12,28 @@ module _ {C : Type 0} where
       let tally = idle_tally l in
       ap (λ n. conns l - n) tally ∙ (omega arith)
 
+  -- how many go out with an answer: where a try is served or takes a connection to check
+  abbrev pub going : Act C → Answer → ℕ
+  going (Try g) (Served k grant) = 1
+  going (Try g) (Taken k grant) = 1
+  going _ _ = 0
+
+  -- how many come back: where one is kept or closed
+  abbrev pub coming : Act C → Answer → ℕ
+  coming (CheckedErr g broken) (Closed k grant n) = 1
+  coming (GiveUp g why held broken) (Kept k n) = 1
+  coming (GiveUp g why held broken) (Closed k grant n) = 1
+  coming (PutBack k c broken) (Kept m n) = 1
+  coming (PutBack k c broken) (Closed m grant n) = 1
+  coming _ _ = 0
+
   -- an event that does not fit moves nothing
-  unfit_moves : (e : Act C) (n : ℕ) → Moves e Unfit n n
+  unfit_moves : (e : Act C) (n : ℕ) → n + coming e Unfit ≡ n + going e Unfit
   unfit_moves Begin n = refl
   unfit_moves _ n = refl
 
   -- each row moves what is out as its answer says
-  row_moves : (l : Ledger C) (at : ℕ) (e : Act C) (a : Answer) → IsLegal l → fits l e ≡ true → Row l at e a → Moves e a (out l) (out (Later l at e a))
+  row_moves : (l : Ledger C) (at : ℕ) (e : Act C) (a : Answer) → IsLegal l → fits l e ≡ true → Row l at e a → out (Later l at e a) + coming e a ≡ out l + going e a
   row_moves l at _ _ legal f (waits_on {g} {grant} on nothing) = omega (arith, (granted_sized false grant.count (stays_sized l)).out_are)
   row_moves l at _ _ legal f (serves {g} {k} {grant} not_waiting off first want) = omega (arith, (granted_sized false grant.count (turned_sized (idle_turns l k Guarded first).1)).out_are)
   row_moves l at _ _ legal f (takes_out {g} {k} {grant} not_waiting on first want) = omega (arith, (granted_sized false grant.count (turned_sized (idle_turns l k (Held g) first).1)).out_are)
@@ -34,33 +50,36 @@ module _ {C : Type 0} where
   row_moves l at _ _ legal f (opens_late {k} none) = omega (arith, (turned_sized (ends_turn l k f)).out_are)
   row_moves l at _ _ legal f (fails {k}) = omega (arith, (turned_sized (ends_turn l k f)).out_are)
   row_moves l at _ _ legal f (adds {c} room few is who) = omega (arith, (adds_sized l at c).out_are)
-  row_moves l at _ _ legal f (reaps {grant} open_now closed_is by_idle_is by_life_is want) = (granted_reaped grant.count (reaped_sized l at)).out_are
-  row_moves l at _ _ legal f (leaves {n} is) = (left_sized l at n).out_are
+  row_moves l at _ _ legal f (reaps {grant} open_now closed_is by_idle_is by_life_is want) = omega (arith, (granted_reaped grant.count (reaped_sized l at)).out_are)
+  row_moves l at _ _ legal f (leaves {n} is) = omega (arith, (left_sized l at n).out_are)
   row_moves l at _ _ legal f _ = refl
 
   -- so does each event that is allowed
-  moved_out : (l : Ledger C) (at : ℕ) (e : Act C) (a : Answer) → IsLegal l → Allowed l at e a → Moves e a (out l) (out (Later l at e a))
-  moved_out l at e a legal allowed = each_allowed (λ b. Moves e b (out l) (out (Later l at e b))) l at e a allowed (unfit_moves e (out l)) (row_moves l at e a legal)
-
-  -- what is out in a ledger is within the size
-  out_few : (l : Ledger C) → IsLegal l → out l ≤ (start l).config.max_size
-  out_few l legal = omega (arith, conns_split (records l), (all_fit l legal).size)
+  moved_out : (l : Ledger C) (at : ℕ) (e : Act C) (a : Answer) → IsLegal l → Allowed l at e a → out (Later l at e a) + coming e a ≡ out l + going e a
+  moved_out l at e a legal allowed = each_allowed (λ b. out (Later l at e b) + coming e b ≡ out l + going e b) l at e a allowed (unfit_moves e (out l)) (row_moves l at e a legal)
 
   pub counted_at : (l : Ledger C) (at : ℕ) (e : Act C) (a : Answer) (lent lent_now : Lent) → IsLegal l → Allowed l at e a
-      → IsCounted (shown_beside lent l) e a (shown_beside lent_now (Later l at e a))
+      → IsCounted (shown_beside lent l) (going e a) (coming e a) (shown_beside lent_now (Later l at e a))
   counted_at l at e a lent lent_now legal allowed = record {
     config = refl;
-    moves = subst (λ (n : ℕ). Moves e a n (out_of (shown (Later l at e a)))) (sym (out_shown l))
-        (subst (λ (n : ℕ). Moves e a (out l) n) (sym (out_shown (Later l at e a))) (moved_out l at e a legal allowed));
-    few = subst (λ (n : ℕ). n ≤ (start l).config.max_size) (sym (out_shown (Later l at e a))) (out_few (Later l at e a) (legal, allowed));
+    moves = ap (λ (n : ℕ). n + coming e a) (out_shown (Later l at e a)) ∙ moved_out l at e a legal allowed ∙ ap (λ (n : ℕ). n + going e a) (sym (out_shown l));
   }
 
-  -- A step of a state that means a legal ledger is counted.
-  pub counted : (old : StateView C) (at : ℕ) (e : Act C) (a : Answer) (new : StateView C) → HasLedger old → Meets old at e a new → IsCounted old e a new
-  counted old at e a new h meets =
-      let m = meets h.0 h.1 h.2 in
-      subst (λ (s : StateView C). IsCounted s e a new) h.2
-      (subst (λ (s : StateView C). IsCounted (shown_beside old.lent h.0) e a s) m.1 (counted_at h.0 at e a old.lent new.lent h.1 m.0))
+  -- A step of a state that means a legal ledger is counted. The old state is the view of the fields.
+  pub counted : {s old : StateView C} (new : StateView C) (at : ℕ) (e : Act C) (a : Answer) → s ≡ old → HasLedger s → Meets old at e a new
+      → IsCounted old (going e a) (coming e a) new
+  counted {s} {old} new at e a is h meets =
+      let m = meets h.0 h.1 (as_shown h.0 is h.2) in
+      subst (λ (x : StateView C). IsCounted x (going e a) (coming e a) new) (as_shown h.0 is h.2)
+      (subst (λ (x : StateView C). IsCounted (shown_beside old.lent h.0) (going e a) (coming e a) x) m.1 (counted_at h.0 at e a old.lent new.lent h.1 m.0))
+
+  -- So are a begin and a try.
+  pub both_counted : {s old : StateView C} {between : StateView C} (new : StateView C) (at g k : ℕ) (a : Answer) → s ≡ old → HasLedger s
+      → Meets old at Begin (Begun g) between → Meets between at (Try k) a new → IsCounted old (going (Try k) a) 0 new
+  both_counted {between = between} new at g k a is h begins tries =
+      let first = counted between at Begin (Begun g) is h begins in
+      let second = counted new at (Try k) a refl (led between at Begin (Begun g) is h begins) tries in
+      record { config = second.config ∙ first.config; moves = omega (arith, first.moves, second.moves) }
 
   -- the idle connections are among the connections
   pub idle_few : (s : StateView C) → HasLedger s → length s.records.idle ≤ s.records.conns

@@ -2,20 +2,19 @@
 ghost use Rattle.std.specs.Prelude.{◌≡◌, ◌+◌, ◌≤◌, IfSome, IfNone, IfOk, IfErr, true, false, None, Some};
 ghost use Rattle.bb8_ledger.specs.Acts as acts;
 ghost use Rattle.bb8_ledger.specs.Answers as answers;
-ghost use Rattle.bb8_ledger.specs.Ledger as ledger;
 ghost use Rattle.bb8_core.specs.Decided as decided;
 ghost use Rattle.bb8_types.specs.Grants as grants;
 ghost use Rattle.bb8_types.specs.Settings.{settings_of, is_lawful};
-ghost use Rattle.bb8_types.specs.Figures.{figures_of};
 ghost use Rattle.bb8_core.specs.Run.{opening};
-ghost use Rattle.bb8_core.specs.Parts.{out_of};
+ghost use Rattle.bb8_core.specs.Parts.{out_of, come_back, goes_out, starts_out, IsCounted};
 ghost use Rattle.bb8_core.specs.StateView.{Represents, Meets, Lends, Searches, IsFitting, IsWithinLimits};
 ghost use Rattle.bb8_core.specs.Unfit.{Stepped, OrComesBack};
-ghost use Rattle.bb8_core.specs.Closings.{OffersReaped, OffersLeft};
-ghost use Rattle.bb8_core.specs.StepAnswers.{answer_of_begin, answer_of_try, answer_of_checked_ok, answer_of_checked_err, reason_of, answer_of_give_up, answer_of_put_back, answer_of_claim, answer_of_opened, answer_of_failed, answer_of_add, answer_of_reap, answer_of_join, answer_of_leave, answer_of_look, HandsOut, ServesAtOnce, NotAtOnce, Starts, GivesBack, GivesBackInvalid, GivesBackHeld, HandsBack, Refuses, closed_in};
+ghost use Rattle.bb8_core.specs.Closings.{OffersReaped};
+ghost use Rattle.bb8_core.specs.StepAnswers.{answer_of_begin, answer_of_try, answer_of_checked_ok, answer_of_checked_err, reason_of, answer_of_give_up, answer_of_put_back, answer_of_claim, answer_of_opened, answer_of_failed, answer_of_add, answer_of_reap, HandsOut, ServesAtOnce, NotAtOnce, Starts, GivesBack, GivesBackInvalid, GivesBackHeld, HandsBack, Refuses, closed_in};
 ghost use Rattle.bb8_types.specs.declared.standing.Holder.TheVariants.{Guard, Get};
 
 mod decided;
+mod handles;
 mod questions;
 
 pub use crate::answers::{
@@ -29,7 +28,7 @@ use bb8_tables::gets::{Gets, first_wait, is_notified, is_trying, is_unnotified};
 pub use bb8_tables::keys::{GetKey, Key};
 use bb8_tables::records::Records;
 use bb8_tables::{Lendings, UncountedAccess};
-use bb8_types::api::{Config, Moment, State};
+use bb8_types::api::{Config, Moment};
 pub use bb8_types::grants::Grant;
 pub use bb8_types::reasons::Reason;
 use bb8_types::standing::{GetPlace, Holder};
@@ -139,6 +138,7 @@ impl<C: Drop, A> PoolInternals<C, A> {
         ensures some { IfSome result (λ served. ServesAtOnce self.old at.0 served self.new) }
         ensures none { IfNone result (self.new ≡ self.old) }
         ensures cause { IfNone result (NotAtOnce self.old) }
+        ensures counts { IfSome result (λ served. IsCounted self.old 1 0 self.new) }
         ensures examined { IfSome result (λ served. Lends 4 self.old self.new) }
         ensures searched { IfSome result (λ served. Searches 0 self.new) }
         ensures limits { IsWithinLimits self.old }
@@ -151,14 +151,12 @@ impl<C: Drop, A> PoolInternals<C, A> {
         if self.records.idle_connections() == 0 {
             return None;
         }
-        self.lendings.start();
+        let mut lendings = self.lendings.begun();
         let strategy = self.config.queue_strategy;
-        match self
-            .records
-            .take(strategy, Holder::Guard, &mut self.lendings)
-        {
+        match self.records.take(strategy, Holder::Guard, &mut lendings) {
             None => None,
             Some((key, conn)) => {
+                self.lendings = lendings;
                 let now = self.latest.max(at.0);
                 self.latest = now;
                 let get = self.gets.begin_and_end();
@@ -183,6 +181,7 @@ impl<C: Drop, A> PoolInternals<C, A> {
         ensures ok { IfOk result (λ told. Starts self.old at.0 told self.new) }
         ensures err { IfErr result (λ u. Meets self.old at.0 acts.Begin answers.Unfit self.new
             × (self.new ≡ self.old)) }
+        ensures counts { IfOk result (λ told. IsCounted self.old (starts_out told) 0 self.new) }
         ensures examined { IfOk result (λ told. Lends 4 self.old self.new) }
         ensures searched { IfOk result (λ told. Searches 0 self.new) }
         ensures limits { IsWithinLimits self.old }
@@ -218,6 +217,7 @@ impl<C: Drop, A> PoolInternals<C, A> {
     fn start_on(&mut self, at: Moment) -> Started<C>
         requires { IsFitting self.old acts.Begin }
         ensures step { Starts self.old at.0 result self.new }
+        ensures counts { IsCounted self.old (starts_out result) 0 self.new }
         ensures examined { Lends 4 self.old self.new }
         ensures searched { Searches 0 self.new }
     {
@@ -275,6 +275,7 @@ impl<C: Drop, A> PoolInternals<C, A> {
         ensures step { Stepped Meets answer_of_try
             self.old at.0 (acts.Try get.number) result self.new }
         ensures connection { IfOk result (HandsOut self.old) }
+        ensures counts { IfOk result (λ told. IsCounted self.old (goes_out told) 0 self.new) }
         ensures examined { IfOk result (λ told. Lends 4 self.old self.new) }
         ensures searched { IfOk result (λ told. Searches 2 self.new) }
         ensures limits { IsWithinLimits self.old }
@@ -329,6 +330,7 @@ impl<C: Drop, A> PoolInternals<C, A> {
     ) -> Result<CheckedOkAnswer, Unfit>
         ensures step { Stepped Meets (answer_of_checked_ok self.old.records.next)
             self.old at.0 (acts.CheckedOk get.number) result self.new }
+        ensures counts { IsCounted self.old 0 0 self.new }
         ensures examined { IfOk result (λ told. Lends 4 self.old self.new) }
         ensures searched { IfOk result (λ told. Searches 2 self.new) }
         ensures limits { IsWithinLimits self.old }
@@ -366,6 +368,7 @@ impl<C: Drop, A> PoolInternals<C, A> {
         ensures step { Stepped Meets answer_of_checked_err
             self.old at.0 (acts.CheckedErr get.number broken) result self.new }
         ensures connection { OrComesBack GivesBackInvalid conn result }
+        ensures counts { IsCounted self.old 0 (come_back result) self.new }
         ensures examined { IfOk result (λ told. Lends 4 self.old self.new) }
         ensures searched { IfOk result (λ told. Searches 3 self.new) }
         ensures limits { IsWithinLimits self.old }
@@ -410,6 +413,7 @@ impl<C: Drop, A> PoolInternals<C, A> {
         ensures step { Stepped Meets answer_of_give_up self.old at.0
             (acts.GiveUp get.number (reason_of reason) None broken) result self.new }
         ensures connection { IfOk result (GivesBackHeld None) }
+        ensures counts { IsCounted self.old 0 0 self.new }
         ensures examined { IfOk result (λ told. Lends 4 self.old self.new) }
         ensures searched { IfOk result (λ told. Searches 1 self.new) }
         ensures limits { IsWithinLimits self.old }
@@ -442,6 +446,7 @@ impl<C: Drop, A> PoolInternals<C, A> {
         ensures step { Stepped Meets answer_of_give_up self.old at.0
             (acts.GiveUp get.number (reason_of reason) (Some conn) broken) result self.new }
         ensures connection { OrComesBack (λ c. GivesBackHeld (Some c)) conn result }
+        ensures counts { IsCounted self.old 0 (come_back result) self.new }
         ensures examined { IfOk result (λ told. Lends 4 self.old self.new) }
         ensures searched { IfOk result (λ told. Searches 3 self.new) }
         ensures limits { IsWithinLimits self.old }
@@ -505,6 +510,7 @@ impl<C: Drop, A> PoolInternals<C, A> {
         ensures step { Stepped Meets (answer_of_put_back k.number)
             self.old at.0 (acts.PutBack k.number conn broken) result self.new }
         ensures connection { OrComesBack GivesBack conn result }
+        ensures counts { IsCounted self.old 0 (come_back result) self.new }
         ensures examined { IfOk result (λ told. Lends 4 self.old self.new) }
         ensures searched { IfOk result (λ told. Searches 2 self.new) }
         ensures limits { IsWithinLimits self.old }
@@ -551,6 +557,7 @@ impl<C: Drop, A> PoolInternals<C, A> {
     /// once where that is asked for.
     pub fn fill(&mut self, at: Moment, claimed: bool) -> Grant
         ensures step { Meets self.old at.0 (acts.Fill claimed) (answers.Granted result) self.new }
+        ensures counts { IsCounted self.old 0 0 self.new }
         ensures examined { Lends 4 self.old self.new }
         ensures searched { Searches 0 self.new }
         ensures limits { IsWithinLimits self.old }
@@ -565,6 +572,7 @@ impl<C: Drop, A> PoolInternals<C, A> {
     /// Claims the unclaimed approval of the least number.
     pub fn claim(&mut self, at: Moment) -> ClaimAnswer
         ensures step { Meets self.old at.0 acts.Claim (answer_of_claim result) self.new }
+        ensures counts { IsCounted self.old 0 0 self.new }
         ensures examined { Lends 4 self.old self.new }
         ensures searched { Searches 0 self.new }
         ensures limits { IsWithinLimits self.old }
@@ -584,6 +592,7 @@ impl<C: Drop, A> PoolInternals<C, A> {
         ensures step { Stepped Meets (answer_of_opened a.number)
             self.old at.0 (acts.Opened a.number conn) result self.new }
         ensures connection { OrComesBack HandsBack conn result }
+        ensures counts { IsCounted self.old 0 0 self.new }
         ensures examined { IfOk result (λ told. Lends 4 self.old self.new) }
         ensures searched { IfOk result (λ told. Searches 1 self.new) }
         ensures limits { IsWithinLimits self.old }
@@ -615,6 +624,7 @@ impl<C: Drop, A> PoolInternals<C, A> {
     pub fn failed(&mut self, at: Moment, approval: Key) -> Result<FailedAnswer, Unfit>
         ensures step { Stepped Meets answer_of_failed self.old at.0 (acts.Failed approval.number)
             result self.new }
+        ensures counts { IsCounted self.old 0 0 self.new }
         ensures examined { IfOk result (λ told. Lends 4 self.old self.new) }
         ensures searched { IfOk result (λ told. Searches 1 self.new) }
         ensures limits { IsWithinLimits self.old }
@@ -636,6 +646,7 @@ impl<C: Drop, A> PoolInternals<C, A> {
         ensures step { Stepped Meets answer_of_add self.old at.0 (acts.Add conn broken)
             result self.new }
         ensures connection { OrComesBack Refuses conn result }
+        ensures counts { IsCounted self.old 0 0 self.new }
         ensures examined { IfOk result (λ told. Lends 4 self.old self.new) }
         ensures searched { IfOk result (λ told. Searches 0 self.new) }
         ensures limits { IsWithinLimits self.old }
@@ -668,6 +679,7 @@ impl<C: Drop, A> PoolInternals<C, A> {
     /// but the latest moment. It looks at the connections that end, at most at those that are out, and at two more.
     pub fn reap(&mut self, at: Moment) -> ReapAnswer
         ensures step { Meets self.old at.0 acts.Reap (answer_of_reap result) self.new }
+        ensures counts { IsCounted self.old 0 0 self.new }
         ensures examined { Lends (closed_in result + out_of self.old + 2) self.old self.new }
         ensures searched { Searches 0 self.new }
         ensures limits { IsWithinLimits self.old }
@@ -681,6 +693,7 @@ impl<C: Drop, A> PoolInternals<C, A> {
     pub fn reap_into(&mut self, at: Moment, closed: &mut ClosedList<C>) -> ReapAnswer
         ensures closed { OffersReaped self.old at.0 result closed.old closed.new }
         ensures step { Meets self.old at.0 acts.Reap (answer_of_reap result) self.new }
+        ensures counts { IsCounted self.old 0 0 self.new }
         ensures examined { Lends (closed_in result + out_of self.old + 2) self.old self.new }
         ensures searched { Searches 0 self.new }
         ensures limits { IsWithinLimits self.old }
@@ -703,97 +716,6 @@ impl<C: Drop, A> PoolInternals<C, A> {
             by_idle: reaped.by_idle,
             by_life: reaped.by_life,
             grant,
-        }
-    }
-
-    /// What the pool tells of itself.
-    pub fn state(&mut self, at: Moment) -> State
-        ensures step { Meets self.old at.0 acts.State (answers.Shown (figures_of result)) self.new }
-        ensures figures { (l : ledger.Ledger C) → Represents l self.old
-            → figures_of result ≡ ledger.figures l }
-        ensures size { result.connections ≤ self.old.config.max_size }
-        ensures idle { result.idle_connections ≤ result.connections }
-        ensures examined { Lends 4 self.old self.new }
-        ensures searched { Searches 0 self.new }
-        ensures limits { IsWithinLimits self.old }
-    {
-        self.limits();
-        self.latest = self.latest.max(at.0);
-        self.lendings.start();
-        State {
-            connections: self.records.connections(),
-            idle_connections: self.records.idle_connections(),
-            statistics: self.counters.statistics(),
-        }
-    }
-
-    /// Adds a handle, where fewer than 4,294,967,295 are alive. Where none is nothing changes.
-    pub fn join(&mut self, at: Moment) -> Result<JoinAnswer, Unfit>
-        ensures step { Stepped Meets answer_of_join self.old at.0 acts.Join result self.new }
-        ensures examined { IfOk result (λ told. Lends 4 self.old self.new) }
-        ensures searched { IfOk result (λ told. Searches 0 self.new) }
-        ensures limits { IsWithinLimits self.old }
-    {
-        self.limits();
-        if !self.fits_join() {
-            return Err(Unfit);
-        }
-        self.latest = self.latest.max(at.0);
-        self.lendings.start();
-        if self.handles >= u32::MAX as u64 {
-            return Ok(JoinAnswer::Exhausted);
-        }
-        self.handles += 1;
-        Ok(JoinAnswer::Joined)
-    }
-
-    /// Takes a handle away. With the last one all idle connections and all unclaimed approvals end; the connections are dropped here. Where no
-    /// handle is alive nothing changes.
-    pub fn leave(&mut self, at: Moment) -> Result<LeaveAnswer, Unfit>
-        ensures step { Stepped Meets answer_of_leave self.old at.0 acts.Leave result self.new }
-        ensures examined { IfOk result (λ told. Lends 0 self.old self.new) }
-        ensures searched { IfOk result (λ told. Searches 0 self.new) }
-        ensures limits { IsWithinLimits self.old }
-    {
-        self.limits();
-        if !self.fits_leave() {
-            return Err(Unfit);
-        }
-        let mut dropped = self.records.no_list();
-        Ok(self.leave_into(at, &mut dropped))
-    }
-
-    /// Leaves as `leave` does, and puts the connections that it closes into a list, in line. What the list has no room for is dropped.
-    pub fn leave_into(&mut self, at: Moment, closed: &mut ClosedList<C>) -> LeaveAnswer
-        requires { IsFitting self.old acts.Leave }
-        ensures step { Meets self.old at.0 acts.Leave (answer_of_leave result) self.new }
-        ensures closed { OffersLeft self.old closed.old closed.new }
-        ensures examined { Lends 0 self.old self.new }
-        ensures searched { Searches 0 self.new }
-    {
-        self.latest = self.latest.max(at.0);
-        self.lendings.start();
-        if self.handles == 1 {
-            self.handles = 0;
-            return LeaveAnswer::Left(self.records.leave(closed));
-        }
-        self.handles -= 1;
-        LeaveAnswer::Left(0)
-    }
-
-    /// The effective moment, and whether a handle is alive.
-    pub fn look(&mut self, at: Moment) -> Looked
-        ensures step { Meets self.old at.0 acts.Look (answer_of_look result) self.new }
-        ensures examined { Lends 4 self.old self.new }
-        ensures searched { Searches 0 self.new }
-        ensures limits { IsWithinLimits self.old }
-    {
-        self.limits();
-        self.latest = self.latest.max(at.0);
-        self.lendings.start();
-        Looked {
-            moment: Moment(self.latest),
-            alive: self.handles > 0,
         }
     }
 }

@@ -8,8 +8,8 @@ use Rattle.bb8_ledger.proofs.Waiters.{begins_alive, notify_alive}
 use Rattle.bb8_ledger.proofs.Effects.{by_fit}
 use Rattle.bb8_ledger.proofs.GetEffects.{given_up_sums, trier_leaves, trier_holds, holder_ends, holder_turns, left_alive, left_told_alive}
 use Rattle.bb8_core.proofs.Fitting.{shown}
-use Rattle.bb8_core.specs.Parts.{out_of, Moves}
-use Rattle.bb8_core.proofs.Parts.{counted_at}
+use Rattle.bb8_core.specs.Parts.{out_of}
+use Rattle.bb8_core.proofs.Parts.{going, coming, counted_at}
 use Rattle.bb8_journal.specs.Endings.{is_ending, is_named_ending, CountsDown}
 
 -- a handle is alive
@@ -23,7 +23,7 @@ ends_shown false before after m n p q h = omega arith
 
 module _ {C : Type 0} where
   -- each row, where so many connections are out before and after it
-  row_ends : (l : Ledger C) (at : ℕ) (e : Act C) (a : Answer) (before after : ℕ) → fits l e ≡ true → Row l at e a → Moves e a before after
+  row_ends : (l : Ledger C) (at : ℕ) (e : Act C) (a : Answer) (before after : ℕ) → fits l e ≡ true → Row l at e a → after + coming e a ≡ before + going e a
       → CountsDown (is_ending e) (alive l + (handles l + before)) (alive (Later l at e a) + (handles (Later l at e a) + after))
   row_ends l at _ _ before after f (begins is few) moves = omega (arith, numbered.tally-append (λ r. is_some r.standing) (gets l) new_get)
   row_ends l at _ _ before after f (waits_on {g} {grant} on nothing) moves = omega (arith, begins_alive (start l).first_get (max (latest l) at) (position l) g (gets l))

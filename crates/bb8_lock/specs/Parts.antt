@@ -1,5 +1,5 @@
 -- The parts by which a pool's connections are counted, and how a pool begins.
-use Rattle.std.specs.Prelude.{◌≡◌, ℕ, Bool, false, Result, Ok, Err}
+use Rattle.std.specs.Prelude.{◌≡◌, ℕ, Bool, false}
 use Rattle.std.specs.declared.sync.ledger.Blank.{Blank}
 use Rattle.bb8_types.specs.declared.api.moments.Moment.{Moment}
 use Rattle.bb8_types.specs.declared.grants.Grant.{Grant}
@@ -8,8 +8,6 @@ use Rattle.bb8_ledger.specs.Acts.{Fill}
 use Rattle.bb8_ledger.specs.Answers.{Granted}
 use Rattle.bb8_ledger.specs.Ledger.{Later, opening_with}
 use Rattle.bb8_ledger.specs.Table.{Allowed}
-use Rattle.bb8_core.specs.declared.answers.TryAnswer.{TryAnswer}
-use Rattle.bb8_core.specs.declared.answers.TryAnswer.TheVariants as tried
 use Rattle.bb8_core.specs.StateView.{StateView, Represents}
 
 -- The blank of a pool with these settings: it has a name, and a part for each connection; the parts are those of such a pool.
@@ -18,17 +16,6 @@ pub record IsBlankOf (blank : Blank) (settings : Settings) (name parts : ℕ) (o
   pub cut : blank.parts ≡ parts
   pub sized : blank.parts ≡ settings.max_size
   pub settled : of ≡ settings
-
--- how many parts come back with this answer to a return
-abbrev pub parts_back : {A U : Type 0} → Result A U → ℕ
-parts_back (Ok a) = 1
-parts_back (Err u) = 0
-
--- how many connections go out with this answer to a try
-abbrev pub goes_out : {C : Type 0} → TryAnswer C → ℕ
-goes_out (tried.Served k c grant) = 1
-goes_out (tried.Taken k c grant) = 1
-goes_out (tried.Waiting grant) = 0
 
 -- the default settings, but for the size, and with no check of what is handed out
 abbrev pub unchecked_of : ℕ → Settings

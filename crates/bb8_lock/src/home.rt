@@ -8,27 +8,33 @@ ghost use Rattle.bb8_core.specs.StepAnswers.{answer_of_add, answer_of_checked_er
 ghost use Rattle.bb8_gets.specs.Homes.{StepsIn};
 ghost use Rattle.bb8_gets.specs.Steps.{IsSorted, StartsBy, StepsBy};
 ghost use Rattle.bb8_gets.specs.Told.{in_core};
-ghost use Rattle.bb8_lock.specs.Parts.{goes_out};
+ghost use Rattle.bb8_core.specs.Parts.{goes_out, out_of};
 
 use crate::handle::Handle;
 use crate::locked::{Locked, Part, Parts};
 use bb8_core::api::{Moment, State};
 use bb8_core::internals::{
     AddAnswer, AtOnce, CheckedErrAnswer, GetKey, GiveUpAnswer, JoinAnswer, Key, LeaveAnswer,
-    Looked, PutBackAnswer, Reason, Started, TryAnswer, Unfit,
+    Looked, PoolInternals, PutBackAnswer, Reason, Started, TryAnswer, Unfit,
 };
 use bb8_gets::{FirstTry, GetHome, Joining, Passed, Returned, Taken, Tried};
 use std::sync::ledger::Share;
 
-/// A try's answer, where one of the parts goes with a connection.
+/// A try's answer, where one of the parts goes with a connection. The state already has it out, and within the size.
 #[inline(always)]
-fn hand_out<C, L: Parts>(rest: &mut Share<L>, told: TryAnswer<C>) -> Tried<C, Part<L>>
-    requires parts { goes_out told ≤ rest.old.parts }
+fn hand_out<C: Drop, L: Parts>(
+    core: &PoolInternals<C>,
+    rest: &mut Share<L>,
+    told: TryAnswer<C>,
+) -> Tried<C, Part<L>>
+    requires parts { out_of core.now + rest.old.parts ≡
+        core.now.config.max_size + goes_out told }
     requires amount { rest.old.amount ≡ rest.old.parts }
     ensures told { in_core result ≡ told }
-    ensures parts { rest.new.parts + goes_out told ≡ rest.old.parts }
+    ensures parts { out_of core.now + rest.new.parts ≡ core.now.config.max_size }
     ensures amount { rest.new.amount ≡ rest.new.parts }
 {
+    core.limits();
     match told {
         TryAnswer::Waiting(grant) => Tried::Waiting(grant),
         TryAnswer::Served(key, connection, grant) => {
@@ -60,7 +66,7 @@ impl<C: Drop, L: Parts> Locked<C, L> {
     {
         let Locked { core, rest, .. } = self;
         match core.start(at) {
-            Ok(Started::Tried(get, told)) => Ok(FirstTry::Tried(get, hand_out(rest, told))),
+            Ok(Started::Tried(get, told)) => Ok(FirstTry::Tried(get, hand_out(core, rest, told))),
             Ok(Started::Memory) => Ok(FirstTry::Memory),
             Ok(Started::Exhausted) => Ok(FirstTry::Exhausted),
             Err(Unfit) => Err(Unfit),
@@ -104,7 +110,7 @@ impl<C: Drop, L: Parts> GetHome<C> for Locked<C, L> {
                     place: 0,
                 };
                 let told = TryAnswer::Served(key, conn, grant);
-                Ok(FirstTry::Tried(get, hand_out(rest, told)))
+                Ok(FirstTry::Tried(get, hand_out(core, rest, told)))
             }
             None => {
                 // (in a place of its own, as in `GetState::poll_with`)
@@ -117,7 +123,7 @@ impl<C: Drop, L: Parts> GetHome<C> for Locked<C, L> {
     fn try_get(&mut self, at: Moment, get: GetKey) -> Result<Tried<C, Part<L>>, Unfit> {
         let Locked { core, rest, .. } = self;
         match core.try_get(at, get) {
-            Ok(told) => Ok(hand_out(rest, told)),
+            Ok(told) => Ok(hand_out(core, rest, told)),
             Err(Unfit) => Err(Unfit),
         }
     }

@@ -1,8 +1,8 @@
 //! What the lock of a pool holds.
 ghost use Rattle.std.specs.Prelude.{◌≡◌, ◌+◌, ◌^◌, ◌<◌, ◌≤◌, eqb, true, IfOk};
 ghost use Rattle.bb8_types.specs.Settings.{Settings, default_settings, is_lawful, settings_of};
-ghost use Rattle.bb8_lock.specs.Parts.{parts_back, PoolBegins, IsBlankOf};
-ghost use Rattle.bb8_core.specs.Parts.{out_of};
+ghost use Rattle.bb8_lock.specs.Parts.{PoolBegins, IsBlankOf};
+ghost use Rattle.bb8_core.specs.Parts.{out_of, come_back};
 
 use crate::handle::{Ends, Handle};
 use bb8_core::api::{Config, Memory, Moment};
@@ -61,8 +61,8 @@ impl<L: Parts> Part<L> {
     /// The part joins the rest where its connection was taken back, and is let go where that did not fit.
     #[inline(always)]
     pub(crate) fn settle<C, A>(self, rest: &mut Share<L>, answer: &Result<A, C>)
-        ensures parts { rest.new.parts ≡ rest.old.parts + parts_back answer.now }
-        ensures amount { rest.new.amount ≡ rest.old.amount + parts_back answer.now }
+        ensures parts { rest.new.parts ≡ rest.old.parts + come_back answer.now }
+        ensures amount { rest.new.amount ≡ rest.old.amount + come_back answer.now }
     {
         let Part { share } = self;
         match answer {

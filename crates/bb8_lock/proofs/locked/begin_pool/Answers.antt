@@ -1,19 +1,16 @@
-use Rattle.bb8_lock.proofs.Words.{ap, arith, Settings, settings_of, opening_with}
-use Rattle.bb8_lock.proofs.Sections.{begun_settings, first_numbers, none_out}
+use Rattle.bb8_lock.proofs.Words.{◌≡◌, sym, ap, ◌∙◌, arith, Settings, settings_of, opening_with, out_of}
+use Rattle.bb8_core.specs.StateView.{StateView}
+use Rattle.bb8_lock.proofs.Sections.{first_numbers}
 use Rattle.bb8_lock.proofs.locked.begin_pool.Goals as goal
 
 pub lay_out_parts-total-requires-clause-parts : goal.lay_out_parts-total-requires-clause-parts
-lay_out_parts-total-requires-clause-parts g c =
-    let settled = begun_settings _ 0 0 _ _ c.args.at.0 c.args.claimed c.fill-grant.result c.requires.lawful c.new-core.ensures c.fill-grant.ensures.step in
-    rw settled c.requires.parts
+lay_out_parts-total-requires-clause-parts g c = rw (c.fill-grant.ensures.counts.config ∙ ap (λ (s : StateView _). s.config) (sym c.new-core.ensures)) c.requires.parts
 
 pub lay_out_parts-total-requires-clause-same : goal.lay_out_parts-total-requires-clause-same
-lay_out_parts-total-requires-clause-same g c =
-    let settled = begun_settings _ 0 0 _ _ c.args.at.0 c.args.claimed c.fill-grant.result c.requires.lawful c.new-core.ensures c.fill-grant.ensures.step in
-    ap (λ (s : Settings). s.max_size) settled
+lay_out_parts-total-requires-clause-same g c = ap (λ (s : Settings). s.max_size) (c.fill-grant.ensures.counts.config ∙ ap (λ (s : StateView _). s.config) (sym c.new-core.ensures))
 
 pub lay_out_parts-total-requires-clause-none_out : goal.lay_out_parts-total-requires-clause-none_out
-lay_out_parts-total-requires-clause-none_out g c = none_out _ 0 0 _ _ c.args.at.0 c.args.claimed c.fill-grant.result c.requires.lawful c.new-core.ensures c.fill-grant.ensures.step
+lay_out_parts-total-requires-clause-none_out g c = let none : out_of c.new-core.result ≡ 0 = ap out_of (sym c.new-core.ensures) in omega arith
 
 pub returns-clause-first : goal.returns-clause-first
 returns-clause-first g c =

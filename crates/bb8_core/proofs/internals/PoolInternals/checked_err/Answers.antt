@@ -4,6 +4,7 @@ use Rattle.bb8_core.proofs.Fitting.{shown_fits, fits_held, unfit_held, held_out,
 use Rattle.bb8_core.proofs.Runs.{unfit_gets}
 use Rattle.bb8_core.proofs.Steps.{led, at_view}
 use Rattle.bb8_core.proofs.GetEnds.{notices, meets_invalid}
+use Rattle.bb8_core.proofs.Parts.{counted}
 use Rattle.bb8_core.proofs.internals.PoolInternals.checked_err.Goals as goal
 
 pub returns-in_default-clause-step : goal.returns-in_default-clause-step
@@ -40,3 +41,6 @@ returns-clause-step g c =
 
 pub invariant_of-self-2 : goal.invariant_of-self-2
 invariant_of-self-2 g c = (led _ c.args.at.0 (acts.CheckedErr c.args.get.number c.args.broken) _ c.self.view_is c.self.invariant.0 (returns-clause-step g c).0, c.self.invariant.1)
+
+pub returns-clause-counts : goal.returns-clause-counts
+returns-clause-counts g c = counted _ c.args.at.0 (acts.CheckedErr c.args.get.number c.args.broken) _ c.self.view_is c.self.invariant.0 (returns-clause-step g c).0

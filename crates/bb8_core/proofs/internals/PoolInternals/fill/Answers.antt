@@ -2,6 +2,7 @@ use Rattle.bb8_core.proofs.Words.{arith, refl, view_of}
 use Rattle.bb8_ledger.specs.Acts as acts
 use Rattle.bb8_core.proofs.Fitting.{due_fits}
 use Rattle.bb8_core.proofs.Steps.{grants, meets_fill, led, at_view}
+use Rattle.bb8_core.proofs.Parts.{counted}
 use Rattle.bb8_core.proofs.internals.PoolInternals.fill.Goals as goal
 
 pub grant-requires : goal.grant-requires
@@ -13,3 +14,6 @@ returns-clause-step g c = at_view c.self.view_is
 
 pub invariant_of-self : goal.invariant_of-self
 invariant_of-self g c = (led _ c.args.at.0 (acts.Fill c.args.claimed) _ c.self.view_is c.self.invariant.0 (returns-clause-step g c), c.self.invariant.1)
+
+pub returns-clause-counts : goal.returns-clause-counts
+returns-clause-counts g c = counted _ c.args.at.0 (acts.Fill c.args.claimed) _ c.self.view_is c.self.invariant.0 (returns-clause-step g c)

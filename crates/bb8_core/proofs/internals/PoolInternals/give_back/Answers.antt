@@ -4,6 +4,7 @@ use Rattle.bb8_core.proofs.Fitting.{shown_fits, fits_give_back, unfit_give_back,
 use Rattle.bb8_core.proofs.Runs.{unfit_gets}
 use Rattle.bb8_core.proofs.Steps.{led, at_view}
 use Rattle.bb8_core.proofs.GetEnds.{given_up_is, given_up_open, notices, meets_given_up_kept, meets_given_up_closed}
+use Rattle.bb8_core.proofs.Parts.{counted}
 use Rattle.bb8_core.proofs.internals.PoolInternals.give_back.Goals as goal
 
 pub returns-in_default-clause-step : goal.returns-in_default-clause-step
@@ -86,3 +87,9 @@ invariant_of-self-in-Ok-Err g c = (
       (returns-in-Ok-Err-clause-step g c).0,
   c.self.invariant.1,
 )
+
+pub returns-in-Ok-Ok-clause-counts : goal.returns-in-Ok-Ok-clause-counts
+returns-in-Ok-Ok-clause-counts g c = counted _ c.args.at.0 (acts.GiveUp c.args.get.number (reason_of c.args.reason) (Some c.args.conn) c.args.broken) _ c.self.view_is c.self.invariant.0 (returns-in-Ok-Ok-clause-step g c).0
+
+pub returns-in-Ok-Err-clause-counts : goal.returns-in-Ok-Err-clause-counts
+returns-in-Ok-Err-clause-counts g c = counted _ c.args.at.0 (acts.GiveUp c.args.get.number (reason_of c.args.reason) (Some c.args.conn) c.args.broken) _ c.self.view_is c.self.invariant.0 (returns-in-Ok-Err-clause-step g c).0

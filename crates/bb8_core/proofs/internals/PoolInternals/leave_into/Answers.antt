@@ -2,6 +2,7 @@ use Rattle.bb8_ledger.specs.Acts as acts
 use Rattle.bb8_core.proofs.Closings.{left_offers, none_left}
 use Rattle.bb8_core.proofs.Fitting.{fit_leave}
 use Rattle.bb8_core.proofs.Steps.{meets_left_last, meets_left, led, at_view, fits_view}
+use Rattle.bb8_core.proofs.Parts.{counted}
 use Rattle.bb8_core.proofs.internals.PoolInternals.leave_into.Goals as goal
 
 pub returns-then-self-eq1-clause-step : goal.returns-then-self-eq1-clause-step
@@ -26,3 +27,6 @@ returns-then-self-eq1-clause-closed g c = left_offers c.args.closed.now c.self.v
 
 pub returns-clause-closed : goal.returns-clause-closed
 returns-clause-closed g c = none_left c.args.closed.now c.self.view_is c.if-self-eq1.false
+
+pub returns-then-self-eq1-clause-counts : goal.returns-then-self-eq1-clause-counts
+returns-then-self-eq1-clause-counts g c = counted _ c.args.at.0 acts.Leave _ c.self.view_is c.self.invariant.0 (returns-then-self-eq1-clause-step g c)

@@ -3,6 +3,7 @@ use Rattle.bb8_ledger.specs.Acts as acts
 use Rattle.bb8_core.proofs.Fitting.{shown_fits, fits_at, unfit_at, guarded_record, closed_few, none_after}
 use Rattle.bb8_core.proofs.Runs.{unfit_records}
 use Rattle.bb8_core.proofs.Steps.{meets_returned_kept, meets_returned_closed, led, at_view}
+use Rattle.bb8_core.proofs.Parts.{counted}
 use Rattle.bb8_core.proofs.internals.PoolInternals.put_back.Goals as goal
 
 pub put_back-requires : goal.put_back-requires
@@ -60,3 +61,9 @@ invariant_of-self-in-Ok-Err g c = (
       (returns-in-Ok-Err-clause-step g c).0,
   c.self.invariant.1,
 )
+
+pub returns-in-Ok-Ok-clause-counts : goal.returns-in-Ok-Ok-clause-counts
+returns-in-Ok-Ok-clause-counts g c = counted _ c.args.at.0 (acts.PutBack c.args.k.number c.args.conn c.args.broken) _ c.self.view_is c.self.invariant.0 (returns-in-Ok-Ok-clause-step g c).0
+
+pub returns-in-Ok-Err-clause-counts : goal.returns-in-Ok-Err-clause-counts
+returns-in-Ok-Err-clause-counts g c = counted _ c.args.at.0 (acts.PutBack c.args.k.number c.args.conn c.args.broken) _ c.self.view_is c.self.invariant.0 (returns-in-Ok-Err-clause-step g c).0

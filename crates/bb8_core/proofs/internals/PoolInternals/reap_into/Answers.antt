@@ -5,6 +5,7 @@ use Rattle.bb8_core.proofs.ShownReaped.{reap_few}
 use Rattle.bb8_core.proofs.Closings.{reap_offers, no_reap_offers}
 use Rattle.bb8_core.proofs.Reaps.{meets_reap_ended, meets_reaped, reaped_few}
 use Rattle.bb8_core.proofs.Steps.{grants, led, at_view}
+use Rattle.bb8_core.proofs.Parts.{counted}
 use Rattle.bb8_core.proofs.internals.PoolInternals.reap_into.Goals as goal
 
 pub returns-then-self-eq0-clause-step : goal.returns-then-self-eq0-clause-step
@@ -44,3 +45,6 @@ returns-then-self-eq0-clause-closed g c = no_reap_offers c.args.at.0 c.args.clos
 
 pub returns-clause-closed : goal.returns-clause-closed
 returns-clause-closed g c = reap_offers c.args.at.0 c.grant-grant.result c.args.closed.now c.self.view_is c.max-now.ensures c.reap-reaped.ensures.ends.2 c.reap-reaped.ensures.ends.3
+
+pub returns-clause-counts : goal.returns-clause-counts
+returns-clause-counts g c = counted _ c.args.at.0 acts.Reap _ c.self.view_is c.self.invariant.0 (returns-clause-step g c)

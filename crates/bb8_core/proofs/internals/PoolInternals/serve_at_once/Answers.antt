@@ -3,6 +3,7 @@ use Rattle.bb8_ledger.specs.Acts as acts
 use Rattle.bb8_core.proofs.Fitting.{shown_record, shown_fits, due_fits, fit_idle, fit_leave}
 use Rattle.bb8_core.proofs.Steps.{grants, led, at_view}
 use Rattle.bb8_core.proofs.AtOnce.{between, meets_begun_between, meets_served_between}
+use Rattle.bb8_core.proofs.Parts.{both_counted}
 use Rattle.bb8_core.proofs.internals.PoolInternals.serve_at_once.Goals as goal
 
 pub overflow_add-self : goal.overflow_add-self
@@ -44,3 +45,6 @@ invariant_of-self-in-Some g c = (
       led _ c.args.at.0 (acts.Try c.begin_and_end-get.result) _ refl began both.2,
   c.self.invariant.1,
 )
+
+pub returns-in-Some-clause-counts : goal.returns-in-Some-clause-counts
+returns-in-Some-clause-counts g c = let s = returns-in-Some-clause-some g c in both_counted _ c.args.at.0 _ _ _ c.self.view_is c.self.invariant.0 s.1 s.2

@@ -6,6 +6,7 @@ use Rattle.bb8_ledger.specs.Acts as acts
 use Rattle.bb8_core.proofs.Fitting.{shown_record, shown_fits, due_fits, fit_leave}
 use Rattle.bb8_core.proofs.Steps.{grants, meets_memory, meets_exhausted, due_waiting, left, used_up, led, at_view, fits_view}
 use Rattle.bb8_core.proofs.AtOnce.{between, begun_at, meets_begun_between, meets_served_between, meets_taken_between, meets_waits_between}
+use Rattle.bb8_core.proofs.Parts.{both_counted}
 use Rattle.bb8_core.proofs.internals.PoolInternals.start_on.Goals as goal
 
 pub returns-then-not-has_number-clause-step : goal.returns-then-not-has_number-clause-step
@@ -115,3 +116,12 @@ invariant_of-self-in-Some g c = (
       led _ c.args.at.0 (acts.Try c.next_number.result) _ refl began both.2,
   c.self.invariant.1,
 )
+
+pub returns-in-None-clause-counts : goal.returns-in-None-clause-counts
+returns-in-None-clause-counts g c = let s = returns-in-None-clause-step g c in both_counted _ c.args.at.0 _ _ _ c.self.view_is c.self.invariant.0 s.1 s.2
+
+pub returns-then-self-clause-counts : goal.returns-then-self-clause-counts
+returns-then-self-clause-counts g c = let s = returns-then-self-clause-step g c in both_counted _ c.args.at.0 _ _ _ c.self.view_is c.self.invariant.0 s.1 s.2
+
+pub returns-else-self-clause-counts : goal.returns-else-self-clause-counts
+returns-else-self-clause-counts g c = let s = returns-else-self-clause-step g c in both_counted _ c.args.at.0 _ _ _ c.self.view_is c.self.invariant.0 s.1 s.2

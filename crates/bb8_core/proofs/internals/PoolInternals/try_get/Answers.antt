@@ -6,6 +6,7 @@ use Rattle.bb8_ledger.specs.Acts as acts
 use Rattle.bb8_core.proofs.Fitting.{as_shown, shown_record, due_fits, trying_stands, trying_off, ended_few}
 use Rattle.bb8_core.proofs.Runs.{shown_try, unfit_step}
 use Rattle.bb8_core.proofs.Steps.{grants, tries, meets_served, meets_taken, meets_waits_on, meets_waits, due_waiting, led, at_view}
+use Rattle.bb8_core.proofs.Parts.{counted}
 use Rattle.bb8_core.proofs.internals.PoolInternals.try_get.Goals as goal
 
 pub returns-then-not-is_trying-clause-step : goal.returns-then-not-is_trying-clause-step
@@ -98,3 +99,12 @@ pub returns-else-self-clause-connection : goal.returns-else-self-clause-connecti
 returns-else-self-clause-connection g c = λ l legal means.
     let was = c.in-Some.ensures.some.1 in
     (record { place = Idle c.in-Some.conn; birth = was.0; entered = was.1 }, shown_record l (view_of c.self.inside) (as_shown l (sym c.self.view_is) means) c.in-Some.key.number ∙ was.2, refl)
+
+pub returns-in-None-clause-counts : goal.returns-in-None-clause-counts
+returns-in-None-clause-counts g c = counted _ c.args.at.0 (acts.Try c.args.get.number) _ c.self.view_is c.self.invariant.0 (returns-in-None-clause-step g c).0
+
+pub returns-then-self-clause-counts : goal.returns-then-self-clause-counts
+returns-then-self-clause-counts g c = counted _ c.args.at.0 (acts.Try c.args.get.number) _ c.self.view_is c.self.invariant.0 (returns-then-self-clause-step g c).0
+
+pub returns-else-self-clause-counts : goal.returns-else-self-clause-counts
+returns-else-self-clause-counts g c = counted _ c.args.at.0 (acts.Try c.args.get.number) _ c.self.view_is c.self.invariant.0 (returns-else-self-clause-step g c).0

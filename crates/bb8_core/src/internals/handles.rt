@@ -1,0 +1,112 @@
+//! What a pool tells of itself, and its handles.
+ghost use Rattle.std.specs.Prelude.{◌≡◌, ◌≤◌, IfOk};
+ghost use Rattle.bb8_ledger.specs.Acts as acts;
+ghost use Rattle.bb8_ledger.specs.Answers as answers;
+ghost use Rattle.bb8_ledger.specs.Ledger as ledger;
+ghost use Rattle.bb8_types.specs.Figures.{figures_of};
+ghost use Rattle.bb8_core.specs.Closings.{OffersLeft};
+ghost use Rattle.bb8_core.specs.Parts.{IsCounted};
+ghost use Rattle.bb8_core.specs.StateView.{Represents, Meets, Lends, Searches, IsFitting, IsWithinLimits};
+ghost use Rattle.bb8_core.specs.StepAnswers.{answer_of_join, answer_of_leave, answer_of_look};
+ghost use Rattle.bb8_core.specs.Unfit.{Stepped};
+
+use super::{ClosedList, JoinAnswer, LeaveAnswer, Looked, PoolInternals, Unfit};
+use bb8_types::api::{Moment, State};
+
+impl<C: Drop, A> PoolInternals<C, A> {
+    /// What the pool tells of itself.
+    pub fn state(&mut self, at: Moment) -> State
+        ensures step { Meets self.old at.0 acts.State (answers.Shown (figures_of result)) self.new }
+        ensures figures { (l : ledger.Ledger C) → Represents l self.old
+            → figures_of result ≡ ledger.figures l }
+        ensures size { result.connections ≤ self.old.config.max_size }
+        ensures idle { result.idle_connections ≤ result.connections }
+        ensures counts { IsCounted self.old 0 0 self.new }
+        ensures examined { Lends 4 self.old self.new }
+        ensures searched { Searches 0 self.new }
+        ensures limits { IsWithinLimits self.old }
+    {
+        self.limits();
+        self.latest = self.latest.max(at.0);
+        self.lendings.start();
+        State {
+            connections: self.records.connections(),
+            idle_connections: self.records.idle_connections(),
+            statistics: self.counters.statistics(),
+        }
+    }
+
+    /// Adds a handle, where fewer than 4,294,967,295 are alive. Where none is nothing changes.
+    pub fn join(&mut self, at: Moment) -> Result<JoinAnswer, Unfit>
+        ensures step { Stepped Meets answer_of_join self.old at.0 acts.Join result self.new }
+        ensures counts { IsCounted self.old 0 0 self.new }
+        ensures examined { IfOk result (λ told. Lends 4 self.old self.new) }
+        ensures searched { IfOk result (λ told. Searches 0 self.new) }
+        ensures limits { IsWithinLimits self.old }
+    {
+        self.limits();
+        if !self.fits_join() {
+            return Err(Unfit);
+        }
+        self.latest = self.latest.max(at.0);
+        self.lendings.start();
+        if self.handles >= u32::MAX as u64 {
+            return Ok(JoinAnswer::Exhausted);
+        }
+        self.handles += 1;
+        Ok(JoinAnswer::Joined)
+    }
+
+    /// Takes a handle away. With the last one all idle connections and all unclaimed approvals end; the connections are dropped here. Where no
+    /// handle is alive nothing changes.
+    pub fn leave(&mut self, at: Moment) -> Result<LeaveAnswer, Unfit>
+        ensures step { Stepped Meets answer_of_leave self.old at.0 acts.Leave result self.new }
+        ensures counts { IsCounted self.old 0 0 self.new }
+        ensures examined { IfOk result (λ told. Lends 0 self.old self.new) }
+        ensures searched { IfOk result (λ told. Searches 0 self.new) }
+        ensures limits { IsWithinLimits self.old }
+    {
+        self.limits();
+        if !self.fits_leave() {
+            return Err(Unfit);
+        }
+        let mut dropped = self.records.no_list();
+        Ok(self.leave_into(at, &mut dropped))
+    }
+
+    /// Leaves as `leave` does, and puts the connections that it closes into a list, in line. What the list has no room for is dropped.
+    pub fn leave_into(&mut self, at: Moment, closed: &mut ClosedList<C>) -> LeaveAnswer
+        requires { IsFitting self.old acts.Leave }
+        ensures step { Meets self.old at.0 acts.Leave (answer_of_leave result) self.new }
+        ensures closed { OffersLeft self.old closed.old closed.new }
+        ensures counts { IsCounted self.old 0 0 self.new }
+        ensures examined { Lends 0 self.old self.new }
+        ensures searched { Searches 0 self.new }
+    {
+        self.latest = self.latest.max(at.0);
+        self.lendings.start();
+        if self.handles == 1 {
+            self.handles = 0;
+            return LeaveAnswer::Left(self.records.leave(closed));
+        }
+        self.handles -= 1;
+        LeaveAnswer::Left(0)
+    }
+
+    /// The effective moment, and whether a handle is alive.
+    pub fn look(&mut self, at: Moment) -> Looked
+        ensures step { Meets self.old at.0 acts.Look (answer_of_look result) self.new }
+        ensures counts { IsCounted self.old 0 0 self.new }
+        ensures examined { Lends 4 self.old self.new }
+        ensures searched { Searches 0 self.new }
+        ensures limits { IsWithinLimits self.old }
+    {
+        self.limits();
+        self.latest = self.latest.max(at.0);
+        self.lendings.start();
+        Looked {
+            moment: Moment(self.latest),
+            alive: self.handles > 0,
+        }
+    }
+}

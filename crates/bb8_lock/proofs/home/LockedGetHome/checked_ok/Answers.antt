@@ -1,8 +1,0 @@
-use Rattle.bb8_ledger.specs.Acts as acts
-use Rattle.bb8_lock.proofs.Sections.{all_kept}
-use Rattle.bb8_lock.proofs.home.LockedGetHome.checked_ok.Goals as goal
-
-pub invariant_of-self : goal.invariant_of-self
-invariant_of-self g c =
-    let kept = all_kept _ (acts.CheckedOk c.args.get.number) _ _ (c.checked_ok.ensures.limits, c.checked_ok.ensures.step.0) (λ m. m) c.args.self.now.parts c.args.self.now.settled in
-    record { parts = kept.0; amount = c.args.self.now.amount; settled = kept.1 }
