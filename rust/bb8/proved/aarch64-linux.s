@@ -4552,6 +4552,9 @@ v0_9_1_proved_1_bb8_add:                                // @v0_9_1_proved_1_bb8_
 .Lv0_9_1_proved_1_CPI41_0:
 	.xword	4                               // 0x4
 	.xword	0                               // 0x0
+.Lv0_9_1_proved_1_CPI41_1:
+	.xword	1                               // 0x1
+	.xword	0                               // 0x0
 	.section	.text.bb8_serve_at_once,"ax",@progbits
 	.globl	v0_9_1_proved_1_bb8_serve_at_once
 	.p2align	2
@@ -4560,9 +4563,9 @@ v0_9_1_proved_1_bb8_serve_at_once:                      // @v0_9_1_proved_1_bb8_
 // %bb.0:                               // %start
 	sub	sp, sp, #96
 	stp	x20, x19, [sp, #80]             // 16-byte Folded Spill
-	ldr	x19, [x0]
+	ldr	x20, [x0]
 	str	xzr, [x0]
-	ldrb	w9, [x19, #12]
+	ldrb	w9, [x20, #12]
 	stp	x29, x30, [sp, #16]             // 16-byte Folded Spill
 	add	x29, sp, #16
 	str	x25, [sp, #32]                  // 8-byte Spill
@@ -4570,92 +4573,91 @@ v0_9_1_proved_1_bb8_serve_at_once:                      // @v0_9_1_proved_1_bb8_
 	stp	x22, x21, [sp, #64]             // 16-byte Folded Spill
 	tbnz	w9, #0, .Lv0_9_1_proved_1_BB41_12
 // %bb.1:                               // %else.4.i.i
-	ldr	x9, [x19, #320]
+	ldr	x9, [x20, #320]
 	cmn	x9, #1
 	b.eq	.Lv0_9_1_proved_1_BB41_12
 // %bb.2:                               // %"bb8_tables::gets::Gets::has_room.exit.i"
-	ldp	x9, x10, [x19, #440]
+	ldp	x9, x10, [x20, #440]
 	cmp	x9, x10
 	b.hs	.Lv0_9_1_proved_1_BB41_12
 // %bb.3:                               // %after.1.i.i
-	ldr	w9, [x19, #192]
+	ldr	w9, [x20, #192]
 	cbz	w9, .Lv0_9_1_proved_1_BB41_12
 // %bb.4:                               // %join.13.i.i
-	ldr	x9, [x19, #544]
-	ldr	x10, [x19, #552]
-	movi	v0.2d, #0000000000000000
-	ldr	x11, [x19, #560]
-	ldr	x12, [x19, #168]
-	mov	w13, #4                         // =0x4
-	add	x9, x9, x10
-	ldrb	w10, [x19, #104]
-	add	x9, x9, x11
-	add	x11, x19, #552
-	add	x9, x9, #1
-	cmp	w10, #0
-	str	q0, [x11]
-	str	x9, [x19, #544]
-	csel	x9, x13, xzr, eq
-	ldr	x10, [x19, #144]
-	ldr	w20, [x12, x9]
+	ldrb	w9, [x20, #104]
+	ldr	x10, [x20, #168]
+	ldr	x11, [x20, #552]
+	cmp	w9, #0
+	mov	w9, #4                          // =0x4
+	csel	x9, x9, xzr, eq
+	ldr	w19, [x10, x9]
 	mov	w9, #40                         // =0x28
-	umaddl	x13, w20, w9, x10
+	ldr	x10, [x20, #144]
+	umaddl	x16, w19, w9, x10
 	adrp	x9, .Lv0_9_1_proved_1_CPI41_0
-	mov	w10, #1                         // =0x1
+	ldr	x10, [x20, #544]
 	ldr	q0, [x9, :lo12:.Lv0_9_1_proved_1_CPI41_0]
-	str	x10, [x19, #552]
-	ubfiz	x10, x20, #3, #32
-	ldrb	w9, [x13, #8]
-	ldr	x21, [x13, #16]
-	stur	q0, [x13, #8]
-	ldr	x11, [x19, #168]
-	ldr	x22, [x13]
-	add	x12, x11, x10
-	ldr	w12, [x12, #4]
-	cmp	w12, w20
+	ldr	x9, [x20, #560]
+	ubfiz	x13, x19, #3, #32
+	ldrb	w12, [x16, #8]
+	ldr	x21, [x16, #16]
+	stur	q0, [x16, #8]
+	ldr	x14, [x20, #168]
+	ldr	x22, [x16]
+	add	x15, x14, x13
+	ldr	w15, [x15, #4]
+	cmp	w15, w19
 	b.eq	.Lv0_9_1_proved_1_BB41_6
 // %bb.5:                               // %then.1.i.i.i.i
-	ldr	w13, [x11, x10]
-	lsl	x14, x12, #3
-	add	x15, x11, x13, lsl #3
-	str	w13, [x11, x14]
-	str	w12, [x15, #4]
-	ldr	x11, [x19, #168]
-	add	x10, x11, x10
-	stp	w20, w20, [x10]
-	ldr	x10, [x19, #192]
-	sub	x10, x10, #1
-	str	x10, [x19, #192]
+	ldr	w16, [x14, x13]
+	lsl	x17, x15, #3
+	add	x18, x14, x16, lsl #3
+	str	w16, [x14, x17]
+	str	w15, [x18, #4]
+	ldr	x14, [x20, #168]
+	add	x13, x14, x13
+	stp	w19, w19, [x13]
+	ldr	x13, [x20, #192]
+	sub	x13, x13, #1
+	str	x13, [x20, #192]
 .Lv0_9_1_proved_1_BB41_6:                               // %"bb8_tables::records::Records::take::<i64,28'bb8_c::Destruct++none::<i64>{{}}>.exit.i"
-	cmp	w9, #2
+	cmp	w12, #2
 	b.ne	.Lv0_9_1_proved_1_BB41_12
 // %bb.7:                               // %arm.15.i.i
-	ldr	x23, [x19, #320]
+	add	x10, x10, x11
+	adrp	x11, .Lv0_9_1_proved_1_CPI41_1
+	add	x9, x10, x9
+	ldr	q0, [x11, :lo12:.Lv0_9_1_proved_1_CPI41_1]
+	add	x10, x20, #552
+	add	x9, x9, #1
+	add	x11, x20, #456
+	str	x9, [x20, #544]
+	str	q0, [x10]
 	mov	w10, #1                         // =0x1
-	add	x11, x19, #456
+	ldr	x23, [x20, #320]
 	dup	v0.2d, x10
-	ldrb	w10, [x19, #4]
+	ldrb	w10, [x20, #4]
 	add	x9, x23, #1
-	str	x9, [x19, #320]
-	ldr	x9, [x19, #120]
+	str	x9, [x20, #320]
+	ldr	x9, [x20, #120]
 	ldr	q1, [x11]
 	cmp	x1, x9
 	add	v0.2d, v1.2d, v0.2d
 	csel	x9, x1, x9, hi
 	cmp	w10, #1
-	str	x9, [x19, #120]
-	add	x9, x19, #136
+	str	x9, [x20, #120]
+	add	x9, x20, #136
 	str	q0, [x11]
 	b.ne	.Lv0_9_1_proved_1_BB41_10
 // %bb.8:                               // %arm.1.i.i
-	ldp	x11, x10, [x19, #296]
-	ldr	w12, [x19]
+	ldp	x11, x10, [x20, #296]
+	ldr	w12, [x20]
 	add	x11, x10, x11
 	subs	x11, x12, x11
 	b.ls	.Lv0_9_1_proved_1_BB41_10
 // %bb.9:                               // %"bb8_core::internals::decided::want_with_handle::<i64,28'bb8_c::Destruct++none::<i64>{{}}>.exit.i"
-	ldr	x12, [x19, #192]
-	ldr	w13, [x19, #8]
+	ldr	x12, [x20, #192]
+	ldr	w13, [x20, #8]
 	stp	xzr, xzr, [sp]
 	add	x10, x12, x10
 	subs	x10, x13, x10
@@ -4665,21 +4667,21 @@ v0_9_1_proved_1_bb8_serve_at_once:                      // @v0_9_1_proved_1_bb8_
 	cbnz	x2, .Lv0_9_1_proved_1_BB41_14
 .Lv0_9_1_proved_1_BB41_10:                              // %"bb8_core::internals::decided::want_with_handle::<i64,28'bb8_c::Destruct++none::<i64>{{}}>.exit.thread.i"
 	movi	v0.2d, #0000000000000000
-.Lv0_9_1_proved_1_BB41_11:                              // %arm.2.i14.i
+.Lv0_9_1_proved_1_BB41_11:                              // %arm.2.i21.i
 	ldr	x9, [x9]
 	mov	w10, #4                         // =0x4
 	b	.Lv0_9_1_proved_1_BB41_13
-.Lv0_9_1_proved_1_BB41_12:                              // %"bb8_core::internals::PoolInternals::serve_at_once::<#9da9a31b56a99434>.exit.thread57.i"
+.Lv0_9_1_proved_1_BB41_12:                              // %"bb8_core::internals::PoolInternals::serve_at_once::<#9da9a31b56a99434>.exit.thread68.i"
 	mov	w10, wzr
 	mov	x22, xzr
-	mov	x20, xzr
+	mov	x19, xzr
 	mov	x21, xzr
 	mov	x23, xzr
 	mov	x9, xzr
 	movi	v0.2d, #0000000000000000
 .Lv0_9_1_proved_1_BB41_13:                              // %"bb8_c::bb8_serve_at_once.exit"
-	str	x19, [x0]
-	stp	x22, x20, [x8, #8]
+	str	x20, [x0]
+	stp	x22, x19, [x8, #8]
 	ldp	x20, x19, [sp, #80]             // 16-byte Folded Reload
 	stp	x21, x23, [x8, #24]
 	ldr	x25, [sp, #32]                  // 8-byte Reload
@@ -4691,10 +4693,10 @@ v0_9_1_proved_1_bb8_serve_at_once:                      // @v0_9_1_proved_1_bb8_
 	ldp	x29, x30, [sp, #16]             // 16-byte Folded Reload
 	add	sp, sp, #96
 	ret
-.Lv0_9_1_proved_1_BB41_14:                              // %then.1.i11.i
+.Lv0_9_1_proved_1_BB41_14:                              // %then.1.i17.i
 	mov	x24, x0
 	mov	x0, sp
-	add	x1, x19, #136
+	add	x1, x20, #136
 	mov	w3, wzr
 	mov	x25, x8
 	bl	"v0_9_1_proved_1_bb8_tables::records::Records::grant_some::<i64,28'bb8_c::Destruct++none::<i64>{{}}>"
@@ -8075,79 +8077,78 @@ v0_9_1_proved_1_bb8_get:                                // @v0_9_1_proved_1_bb8_
 	ldr	w11, [x19, #192]
 	cbz	w11, .Lv0_9_1_proved_1_BB55_20
 // %bb.12:                              // %join.13.i.i.i
-	ldr	x9, [x19, #544]
-	ldr	x10, [x19, #552]
-	movi	v0.2d, #0000000000000000
-	ldr	x11, [x19, #560]
-	ldr	x12, [x19, #168]
-	mov	w13, #4                         // =0x4
-	add	x9, x9, x10
-	ldrb	w10, [x19, #104]
-	add	x9, x9, x11
-	add	x11, x19, #552
-	add	x9, x9, #1
-	cmp	w10, #0
-	str	q0, [x11]
-	str	x9, [x19, #544]
-	csel	x9, x13, xzr, eq
-	ldr	x10, [x19, #144]
-	ldr	w21, [x12, x9]
+	ldrb	w9, [x19, #104]
+	ldr	x10, [x19, #168]
+	ldr	x11, [x19, #552]
+	cmp	w9, #0
+	mov	w9, #4                          // =0x4
+	csel	x9, x9, xzr, eq
+	ldr	w21, [x10, x9]
 	mov	w9, #40                         // =0x28
-	umaddl	x13, w21, w9, x10
+	ldr	x10, [x19, #144]
+	umaddl	x16, w21, w9, x10
 	adrp	x9, .Lv0_9_1_proved_1_CPI55_0
-	mov	w10, #1                         // =0x1
+	ldr	x10, [x19, #544]
 	ldr	q0, [x9, :lo12:.Lv0_9_1_proved_1_CPI55_0]
-	str	x10, [x19, #552]
-	ubfiz	x10, x21, #3, #32
-	ldrb	w9, [x13, #8]
-	ldr	x22, [x13, #16]
-	stur	q0, [x13, #8]
-	ldr	x11, [x19, #168]
-	ldr	x23, [x13]
-	add	x12, x11, x10
-	ldr	w12, [x12, #4]
-	cmp	w12, w21
+	ldr	x9, [x19, #560]
+	ubfiz	x13, x21, #3, #32
+	ldrb	w12, [x16, #8]
+	ldr	x22, [x16, #16]
+	stur	q0, [x16, #8]
+	ldr	x14, [x19, #168]
+	ldr	x23, [x16]
+	add	x15, x14, x13
+	ldr	w15, [x15, #4]
+	cmp	w15, w21
 	b.eq	.Lv0_9_1_proved_1_BB55_14
-// %bb.13:                              // %then.1.i.i.i249.i
-	ldr	w13, [x11, x10]
-	lsl	x14, x12, #3
-	add	x15, x11, x13, lsl #3
-	str	w13, [x11, x14]
-	str	w12, [x15, #4]
-	ldr	x11, [x19, #168]
-	add	x10, x11, x10
-	stp	w21, w21, [x10]
-	ldr	x10, [x19, #192]
-	sub	x10, x10, #1
-	str	x10, [x19, #192]
-.Lv0_9_1_proved_1_BB55_14:                              // %"bb8_tables::records::Records::take::<i64,28'bb8_c::Destruct++none::<i64>{{}}>.exit279.i"
-	ldr	x10, [x19, #120]
+// %bb.13:                              // %then.1.i.i.i253.i
+	ldr	w16, [x14, x13]
+	lsl	x17, x15, #3
+	add	x18, x14, x16, lsl #3
+	str	w16, [x14, x17]
+	str	w15, [x18, #4]
+	ldr	x14, [x19, #168]
+	add	x13, x14, x13
+	stp	w21, w21, [x13]
+	ldr	x13, [x19, #192]
+	sub	x13, x13, #1
+	str	x13, [x19, #192]
+.Lv0_9_1_proved_1_BB55_14:                              // %"bb8_tables::records::Records::take::<i64,28'bb8_c::Destruct++none::<i64>{{}}>.exit283.i"
 	ldr	x20, [x19, #320]
-	cmp	x1, x10
-	csel	x27, x1, x10, hi
-	cmp	w9, #2
-	str	x27, [x19, #120]
+	cmp	w12, #2
 	b.ne	.Lv0_9_1_proved_1_BB55_59
 // %bb.15:                              // %arm.15.i.i.i
+	add	x10, x10, x11
+	adrp	x11, .Lv0_9_1_proved_1_CPI55_1
+	add	x9, x10, x9
+	ldr	q0, [x11, :lo12:.Lv0_9_1_proved_1_CPI55_1]
+	add	x10, x19, #552
+	add	x9, x9, #1
+	mov	w11, #1                         // =0x1
+	str	x9, [x19, #544]
 	add	x9, x20, #1
-	mov	w10, #1                         // =0x1
-	add	x11, x19, #456
+	str	q0, [x10]
+	add	x10, x19, #456
+	dup	v0.2d, x11
 	str	x9, [x19, #320]
-	dup	v0.2d, x10
-	ldrb	w9, [x19, #4]
-	ldr	q1, [x11]
-	cmp	w9, #1
-	add	x9, x19, #136
+	ldr	x9, [x19, #120]
+	ldrb	w11, [x19, #4]
+	ldr	q1, [x10]
+	cmp	x1, x9
 	add	v0.2d, v1.2d, v0.2d
-	str	q0, [x11]
+	csel	x9, x1, x9, hi
+	cmp	w11, #1
+	str	x9, [x19, #120]
+	add	x9, x19, #136
+	str	q0, [x10]
 	b.ne	.Lv0_9_1_proved_1_BB55_18
-// %bb.16:                              // %arm.1.i290.i
+// %bb.16:                              // %arm.1.i294.i
 	ldp	x11, x10, [x19, #296]
 	ldr	w12, [x19]
 	add	x11, x10, x11
 	subs	x11, x12, x11
 	b.ls	.Lv0_9_1_proved_1_BB55_18
-// %bb.17:                              // %"bb8_core::internals::decided::want_with_handle::<i64,28'bb8_c::Destruct++none::<i64>{{}}>.exit306.i"
+// %bb.17:                              // %"bb8_core::internals::decided::want_with_handle::<i64,28'bb8_c::Destruct++none::<i64>{{}}>.exit310.i"
 	ldr	x12, [x19, #192]
 	ldr	w13, [x19, #8]
 	stp	xzr, xzr, [sp]
@@ -8157,9 +8158,9 @@ v0_9_1_proved_1_bb8_get:                                // @v0_9_1_proved_1_bb8_
 	cmp	x11, x10
 	csel	x2, x11, x10, lo
 	cbnz	x2, .Lv0_9_1_proved_1_BB55_72
-.Lv0_9_1_proved_1_BB55_18:                              // %"bb8_core::internals::decided::want_with_handle::<i64,28'bb8_c::Destruct++none::<i64>{{}}>.exit306.thread.i"
+.Lv0_9_1_proved_1_BB55_18:                              // %"bb8_core::internals::decided::want_with_handle::<i64,28'bb8_c::Destruct++none::<i64>{{}}>.exit310.thread.i"
 	movi	v0.2d, #0000000000000000
-.Lv0_9_1_proved_1_BB55_19:                              // %arm.2.i.i467.thread.i
+.Lv0_9_1_proved_1_BB55_19:                              // %arm.2.i.i471.thread.i
 	ldr	x9, [x9]
 	mov	x24, xzr
 	b	.Lv0_9_1_proved_1_BB55_69
@@ -8185,12 +8186,12 @@ v0_9_1_proved_1_bb8_get:                                // @v0_9_1_proved_1_bb8_
 	add	x25, x11, #1
 	str	x12, [x19, #456]
 	cbz	w13, .Lv0_9_1_proved_1_BB55_37
-// %bb.22:                              // %arm.2.i.i360.i
+// %bb.22:                              // %arm.2.i.i364.i
 	cbz	x10, .Lv0_9_1_proved_1_BB55_49
-// %bb.23:                              // %join.3.i8.i.i361.i
+// %bb.23:                              // %join.3.i8.i.i365.i
 	ldr	x10, [x19, #168]
 	b	.Lv0_9_1_proved_1_BB55_39
-.Lv0_9_1_proved_1_BB55_24:                              // %arm.7.i.i.thread121
+.Lv0_9_1_proved_1_BB55_24:                              // %arm.7.i.i.thread120
 	ldr	x9, [x19, #120]
 	cmp	x1, x9
 	csel	x9, x1, x9, hi
@@ -8284,7 +8285,7 @@ v0_9_1_proved_1_bb8_get:                                // @v0_9_1_proved_1_bb8_
 	ldr	x11, [x19, #424]
 	ldr	x20, [x19, #320]
 	cbz	x11, .Lv0_9_1_proved_1_BB55_47
-.Lv0_9_1_proved_1_BB55_36:                              // %arm.2.i.i43
+.Lv0_9_1_proved_1_BB55_36:                              // %arm.2.i.i42
 	sub	x11, x11, #1
 	ldr	x12, [x19, #416]
 	movi	v1.2d, #0000000000000000
@@ -8297,12 +8298,12 @@ v0_9_1_proved_1_bb8_get:                                // @v0_9_1_proved_1_bb8_
 	stur	q1, [x11, #8]
 	stur	q1, [x11, #24]
 	b	.Lv0_9_1_proved_1_BB55_48
-.Lv0_9_1_proved_1_BB55_37:                              // %arm.1.i.i415.i
+.Lv0_9_1_proved_1_BB55_37:                              // %arm.1.i.i419.i
 	cbz	x10, .Lv0_9_1_proved_1_BB55_49
-// %bb.38:                              // %join.3.i.i.i416.i
+// %bb.38:                              // %join.3.i.i.i420.i
 	ldr	x10, [x19, #168]
 	add	x10, x10, #4
-.Lv0_9_1_proved_1_BB55_39:                              // %arm.2.i364.i
+.Lv0_9_1_proved_1_BB55_39:                              // %arm.2.i368.i
 	ldr	w21, [x10]
 	mov	w10, #40                        // =0x28
 	ldr	x11, [x19, #144]
@@ -8321,7 +8322,7 @@ v0_9_1_proved_1_bb8_get:                                // @v0_9_1_proved_1_bb8_
 	ldr	w12, [x12, #4]
 	cmp	w12, w21
 	b.eq	.Lv0_9_1_proved_1_BB55_41
-// %bb.40:                              // %then.1.i.i.i390.i
+// %bb.40:                              // %then.1.i.i.i394.i
 	ldr	w13, [x11, x10]
 	lsl	x14, x12, #3
 	add	x15, x11, x13, lsl #3
@@ -8333,20 +8334,20 @@ v0_9_1_proved_1_bb8_get:                                // @v0_9_1_proved_1_bb8_
 	ldr	x10, [x19, #192]
 	sub	x10, x10, #1
 	str	x10, [x19, #192]
-.Lv0_9_1_proved_1_BB55_41:                              // %"bb8_tables::records::Records::take::<i64,28'bb8_c::Destruct++none::<i64>{{}}>.exit420.i"
+.Lv0_9_1_proved_1_BB55_41:                              // %"bb8_tables::records::Records::take::<i64,28'bb8_c::Destruct++none::<i64>{{}}>.exit424.i"
 	cmp	w9, #2
 	b.ne	.Lv0_9_1_proved_1_BB55_51
 // %bb.42:                              // %arm.8.i71.i
 	ldrb	w9, [x19, #4]
 	cmp	w9, #1
 	b.ne	.Lv0_9_1_proved_1_BB55_45
-// %bb.43:                              // %arm.1.i435.i
+// %bb.43:                              // %arm.1.i439.i
 	ldp	x10, x9, [x19, #296]
 	ldr	w11, [x19]
 	add	x10, x9, x10
 	subs	x10, x11, x10
 	b.ls	.Lv0_9_1_proved_1_BB55_45
-// %bb.44:                              // %"bb8_core::internals::decided::want_with_handle::<i64,28'bb8_c::Destruct++none::<i64>{{}}>.exit451.i"
+// %bb.44:                              // %"bb8_core::internals::decided::want_with_handle::<i64,28'bb8_c::Destruct++none::<i64>{{}}>.exit455.i"
 	ldr	x11, [x19, #192]
 	ldr	w12, [x19, #8]
 	stp	xzr, xzr, [sp]
@@ -8356,7 +8357,7 @@ v0_9_1_proved_1_bb8_get:                                // @v0_9_1_proved_1_bb8_
 	cmp	x10, x9
 	csel	x2, x10, x9, lo
 	cbnz	x2, .Lv0_9_1_proved_1_BB55_67
-.Lv0_9_1_proved_1_BB55_45:                              // %"bb8_core::internals::decided::want_with_handle::<i64,28'bb8_c::Destruct++none::<i64>{{}}>.exit451.i.thread"
+.Lv0_9_1_proved_1_BB55_45:                              // %"bb8_core::internals::decided::want_with_handle::<i64,28'bb8_c::Destruct++none::<i64>{{}}>.exit455.i.thread"
 	movi	v0.2d, #0000000000000000
 	ldrb	w10, [x19, #12]
 	ldr	x9, [x26]
@@ -8369,7 +8370,7 @@ v0_9_1_proved_1_bb8_get:                                // @v0_9_1_proved_1_bb8_
 	cbnz	x11, .Lv0_9_1_proved_1_BB55_36
 .Lv0_9_1_proved_1_BB55_47:
 	mov	x24, xzr
-.Lv0_9_1_proved_1_BB55_48:                              // %"bb8_tables::gets::Gets::bear_holding.exit72"
+.Lv0_9_1_proved_1_BB55_48:                              // %"bb8_tables::gets::Gets::bear_holding.exit71"
 	mov	w11, #40                        // =0x28
 	ldr	x12, [x19, #328]
 	adrp	x13, .Lv0_9_1_proved_1_CPI55_2
@@ -8392,7 +8393,7 @@ v0_9_1_proved_1_bb8_get:                                // @v0_9_1_proved_1_bb8_
 	mov	w9, #1                          // =0x1
 	ldr	x10, [x19, #424]
 	cbz	x10, .Lv0_9_1_proved_1_BB55_52
-.Lv0_9_1_proved_1_BB55_50:                              // %arm.2.i.i154.i
+.Lv0_9_1_proved_1_BB55_50:                              // %arm.2.i.i155.i
 	sub	x10, x10, #1
 	ldr	x11, [x19, #416]
 	movi	v0.2d, #0000000000000000
@@ -8461,7 +8462,7 @@ v0_9_1_proved_1_bb8_get:                                // @v0_9_1_proved_1_bb8_
 	cmp	x10, x9
 	csel	x9, x10, x9, lo
 	cbz	x9, .Lv0_9_1_proved_1_BB55_57
-// %bb.55:                              // %then.1.i177.i
+// %bb.55:                              // %then.1.i180.i
 	mov	x21, x0
 	mov	x0, sp
 	add	x1, x19, #136
@@ -8475,7 +8476,7 @@ v0_9_1_proved_1_bb8_get:                                // @v0_9_1_proved_1_bb8_
 	b	.Lv0_9_1_proved_1_BB55_58
 .Lv0_9_1_proved_1_BB55_56:                              // %"bb8_core::internals::decided::due_waiting::<i64,28'bb8_c::Destruct++none::<i64>{{}}>.exit.thread.i"
 	str	xzr, [sp, #8]
-.Lv0_9_1_proved_1_BB55_57:                              // %join.3.i178.i
+.Lv0_9_1_proved_1_BB55_57:                              // %join.3.i181.i
 	ldr	x9, [x26]
 	str	wzr, [sp, #12]
 .Lv0_9_1_proved_1_BB55_58:                              // %arm.7.i.i.i
@@ -8492,20 +8493,24 @@ v0_9_1_proved_1_bb8_get:                                // @v0_9_1_proved_1_bb8_
 	xtn	v0.2s, v0.2d
 	b	.Lv0_9_1_proved_1_BB55_71
 .Lv0_9_1_proved_1_BB55_59:                              // %arm.7.i.i
+	ldr	x9, [x19, #120]
+	cmp	x1, x9
+	csel	x27, x1, x9, hi
 	cmn	x20, #1
+	str	x27, [x19, #120]
 	b.eq	.Lv0_9_1_proved_1_BB55_25
 // %bb.60:                              // %arm.7.i.i.join.3.i47.i_crit_edge
 	ldp	x9, x10, [x19, #440]
 	cmp	x9, x10
 	b.lo	.Lv0_9_1_proved_1_BB55_21
-.Lv0_9_1_proved_1_BB55_61:                              // %"bb8_tables::gets::Gets::make_room_for_one.exit333.i"
+.Lv0_9_1_proved_1_BB55_61:                              // %"bb8_tables::gets::Gets::make_room_for_one.exit337.i"
 	mov	x21, x0
 	add	x0, x19, #320
 	mov	x22, x8
 	bl	"v0_9_1_proved_1_bb8_tables::gets::Gets::make_room"
 	and	w8, w0, #0xff
 	tbnz	w8, #0, .Lv0_9_1_proved_1_BB55_64
-// %bb.62:                              // %"bb8_tables::gets::Gets::make_room_for_one.exit333.join.6.i58_crit_edge.i"
+// %bb.62:                              // %"bb8_tables::gets::Gets::make_room_for_one.exit337.join.6.i58_crit_edge.i"
 	ldr	x20, [x19, #320]
 	mov	x8, x22
 	mov	x0, x21
@@ -8545,7 +8550,7 @@ v0_9_1_proved_1_bb8_get:                                // @v0_9_1_proved_1_bb8_
 	mov	x8, x22
 	mov	x0, x21
 	b	.Lv0_9_1_proved_1_BB55_5
-.Lv0_9_1_proved_1_BB55_66:                              // %then.1.i190.i
+.Lv0_9_1_proved_1_BB55_66:                              // %then.1.i193.i
 	mov	x24, x0
 	mov	x0, sp
 	add	x1, x19, #136
@@ -8608,7 +8613,7 @@ v0_9_1_proved_1_bb8_get:                                // @v0_9_1_proved_1_bb8_
 	ldp	x29, x30, [sp, #16]             // 16-byte Folded Reload
 	add	sp, sp, #112
 	ret
-.Lv0_9_1_proved_1_BB55_72:                              // %then.1.i309.i
+.Lv0_9_1_proved_1_BB55_72:                              // %then.1.i313.i
 	mov	x24, x0
 	mov	x0, sp
 	add	x1, x19, #136

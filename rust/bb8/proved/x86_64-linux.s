@@ -4575,55 +4575,54 @@ v0_9_1_proved_1_bb8_serve_at_once:                      # @v0_9_1_proved_1_bb8_s
 	movq	(%rsi), %r14
 	movq	$0, (%rsi)
 	cmpb	$0, 12(%r14)
-	jne	.Lv0_9_1_proved_1_BB41_16
+	jne	.Lv0_9_1_proved_1_BB41_7
 # %bb.1:                                # %else.4.i.i
 	cmpq	$-1, 320(%r14)
-	je	.Lv0_9_1_proved_1_BB41_16
+	je	.Lv0_9_1_proved_1_BB41_7
 # %bb.2:                                # %"bb8_tables::gets::Gets::has_room.exit.i"
 	movq	440(%r14), %rcx
 	cmpq	448(%r14), %rcx
-	jae	.Lv0_9_1_proved_1_BB41_16
+	jae	.Lv0_9_1_proved_1_BB41_7
 # %bb.3:                                # %after.1.i.i
 	cmpl	$0, 192(%r14)
-	je	.Lv0_9_1_proved_1_BB41_16
+	je	.Lv0_9_1_proved_1_BB41_7
 # %bb.4:                                # %join.13.i.i
 	movq	544(%r14), %rcx
 	movq	560(%r14), %rdi
 	addq	552(%r14), %rcx
+	xorl	%r8d, %r8d
+	cmpb	$0, 104(%r14)
+	sete	%r8b
+	movq	144(%r14), %r9
+	movq	168(%r14), %r10
+	movl	(%r10,%r8,4), %r15d
+	leaq	(%r15,%r15,4), %r10
+	movq	(%r9,%r10,8), %r12
+	movzbl	8(%r9,%r10,8), %r8d
+	movq	16(%r9,%r10,8), %r13
+	movq	$4, 8(%r9,%r10,8)
+	movq	$0, 16(%r9,%r10,8)
+	movq	168(%r14), %r9
+	movl	4(%r9,%r15,8), %r10d
+	cmpl	%r15d, %r10d
+	je	.Lv0_9_1_proved_1_BB41_6
+# %bb.5:                                # %then.1.i.i.i.i
+	movl	(%r9,%r15,8), %r11d
+	movl	%r10d, 4(%r9,%r11,8)
+	movl	%r11d, (%r9,%r10,8)
+	movq	168(%r14), %r9
+	movl	%r15d, 4(%r9,%r15,8)
+	movl	%r15d, (%r9,%r15,8)
+	decq	192(%r14)
+.Lv0_9_1_proved_1_BB41_6:                               # %"bb8_tables::records::Records::take::<i64,28'bb8_c::Destruct++none::<i64>{{}}>.exit.i"
+	cmpb	$2, %r8b
+	jne	.Lv0_9_1_proved_1_BB41_7
+# %bb.8:                                # %arm.15.i.i
 	addq	%rdi, %rcx
 	incq	%rcx
 	movq	%rcx, 544(%r14)
-	pxor	%xmm0, %xmm0
-	movdqu	%xmm0, 552(%r14)
-	xorl	%ecx, %ecx
-	cmpb	$0, 104(%r14)
-	sete	%cl
-	movq	144(%r14), %rdi
-	movq	168(%r14), %r8
-	movl	(%r8,%rcx,4), %r15d
 	movq	$1, 552(%r14)
-	leaq	(%r15,%r15,4), %r8
-	movq	(%rdi,%r8,8), %r12
-	movzbl	8(%rdi,%r8,8), %ecx
-	movq	16(%rdi,%r8,8), %r13
-	movq	$4, 8(%rdi,%r8,8)
-	movq	$0, 16(%rdi,%r8,8)
-	movq	168(%r14), %rdi
-	movl	4(%rdi,%r15,8), %r8d
-	cmpl	%r15d, %r8d
-	je	.Lv0_9_1_proved_1_BB41_6
-# %bb.5:                                # %then.1.i.i.i.i
-	movl	(%rdi,%r15,8), %r9d
-	movl	%r8d, 4(%rdi,%r9,8)
-	movl	%r9d, (%rdi,%r8,8)
-	movq	168(%r14), %rdi
-	movl	%r15d, 4(%rdi,%r15,8)
-	movl	%r15d, (%rdi,%r15,8)
-	decq	192(%r14)
-.Lv0_9_1_proved_1_BB41_6:                               # %"bb8_tables::records::Records::take::<i64,28'bb8_c::Destruct++none::<i64>{{}}>.exit.i"
-	cmpb	$2, %cl
-	jne	.Lv0_9_1_proved_1_BB41_7
-# %bb.9:                                # %arm.15.i.i
+	movq	$0, 560(%r14)
 	movq	120(%r14), %rdi
 	cmpq	%rdi, %rdx
 	cmovaq	%rdx, %rdi
@@ -4637,15 +4636,15 @@ v0_9_1_proved_1_bb8_serve_at_once:                      # @v0_9_1_proved_1_bb8_s
 	psubq	%xmm1, %xmm0
 	movdqu	%xmm0, 456(%r14)
 	cmpb	$1, 4(%r14)
-	jne	.Lv0_9_1_proved_1_BB41_11
-# %bb.10:                               # %arm.1.i.i
+	jne	.Lv0_9_1_proved_1_BB41_10
+# %bb.9:                                # %arm.1.i.i
 	movq	304(%r14), %r8
 	movq	296(%r14), %rdx
 	addq	%r8, %rdx
 	movl	(%r14), %edi
 	subq	%rdx, %rdi
-	jbe	.Lv0_9_1_proved_1_BB41_11
-# %bb.12:                               # %"bb8_core::internals::decided::want_with_handle::<i64,28'bb8_c::Destruct++none::<i64>{{}}>.exit.i"
+	jbe	.Lv0_9_1_proved_1_BB41_10
+# %bb.11:                               # %"bb8_core::internals::decided::want_with_handle::<i64,28'bb8_c::Destruct++none::<i64>{{}}>.exit.i"
 	movl	8(%r14), %r9d
 	addq	192(%r14), %r8
 	xorl	%edx, %edx
@@ -4656,8 +4655,8 @@ v0_9_1_proved_1_bb8_serve_at_once:                      # @v0_9_1_proved_1_bb8_s
 	pxor	%xmm0, %xmm0
 	movdqa	%xmm0, (%rsp)
 	testq	%rdx, %rdx
-	je	.Lv0_9_1_proved_1_BB41_14
-# %bb.13:                               # %then.1.i11.i
+	je	.Lv0_9_1_proved_1_BB41_13
+# %bb.12:                               # %then.1.i17.i
 	movq	%rsp, %rdi
 	movq	%rsi, 16(%rsp)                  # 8-byte Spill
 	movq	%rcx, %rsi
@@ -4668,18 +4667,17 @@ v0_9_1_proved_1_bb8_serve_at_once:                      # @v0_9_1_proved_1_bb8_s
 	movq	%rbx, %rax
 	movq	8(%rsp), %xmm0                  # xmm0 = mem[0],zero
 	movq	%rsp, %rcx
-	jmp	.Lv0_9_1_proved_1_BB41_14
-.Lv0_9_1_proved_1_BB41_16:                              # %"bb8_core::internals::PoolInternals::serve_at_once::<#9da9a31b56a99434>.exit.thread.i"
+	jmp	.Lv0_9_1_proved_1_BB41_13
+.Lv0_9_1_proved_1_BB41_7:                               # %"bb8_core::internals::PoolInternals::serve_at_once::<#9da9a31b56a99434>.exit.thread68.i"
 	movq	%r14, (%rsi)
 	pxor	%xmm0, %xmm0
-.Lv0_9_1_proved_1_BB41_8:                               # %"bb8_c::bb8_serve_at_once.exit"
 	xorl	%ecx, %ecx
 	xorl	%r12d, %r12d
 	xorl	%r15d, %r15d
 	xorl	%r13d, %r13d
 	xorl	%ebp, %ebp
 	xorl	%edx, %edx
-.Lv0_9_1_proved_1_BB41_15:                              # %"bb8_c::bb8_serve_at_once.exit"
+.Lv0_9_1_proved_1_BB41_14:                              # %"bb8_c::bb8_serve_at_once.exit"
 	movl	%ecx, (%rax)
 	movl	$0, 4(%rax)
 	movq	%r12, 8(%rax)
@@ -4697,16 +4695,13 @@ v0_9_1_proved_1_bb8_serve_at_once:                      # @v0_9_1_proved_1_bb8_s
 	popq	%r15
 	popq	%rbp
 	retq
-.Lv0_9_1_proved_1_BB41_7:                               # %"bb8_core::internals::PoolInternals::serve_at_once::<#9da9a31b56a99434>.exit.thread57.i"
-	movq	%r14, (%rsi)
-	jmp	.Lv0_9_1_proved_1_BB41_8
-.Lv0_9_1_proved_1_BB41_11:                              # %"bb8_core::internals::decided::want_with_handle::<i64,28'bb8_c::Destruct++none::<i64>{{}}>.exit.thread.i"
+.Lv0_9_1_proved_1_BB41_10:                              # %"bb8_core::internals::decided::want_with_handle::<i64,28'bb8_c::Destruct++none::<i64>{{}}>.exit.thread.i"
 	pxor	%xmm0, %xmm0
-.Lv0_9_1_proved_1_BB41_14:                              # %arm.2.i14.i
+.Lv0_9_1_proved_1_BB41_13:                              # %arm.2.i21.i
 	movq	(%rcx), %rdx
 	movq	%r14, (%rsi)
 	movl	$4, %ecx
-	jmp	.Lv0_9_1_proved_1_BB41_15
+	jmp	.Lv0_9_1_proved_1_BB41_14
 .Lv0_9_1_proved_1_func_end41:
 	.size	v0_9_1_proved_1_bb8_serve_at_once, .Lv0_9_1_proved_1_func_end41-v0_9_1_proved_1_bb8_serve_at_once
                                         # -- End function
@@ -8194,49 +8189,48 @@ v0_9_1_proved_1_bb8_get:                                # @v0_9_1_proved_1_bb8_g
 	cmpl	$0, 192(%r14)
 	je	.Lv0_9_1_proved_1_BB55_18
 # %bb.11:                               # %join.13.i.i.i
-	movq	544(%r14), %rcx
-	movq	560(%r14), %rdi
-	addq	552(%r14), %rcx
-	addq	%rdi, %rcx
-	incq	%rcx
-	movq	%rcx, 544(%r14)
-	pxor	%xmm0, %xmm0
-	movdqu	%xmm0, 552(%r14)
+	movq	544(%r14), %rdi
+	movq	560(%r14), %r8
+	addq	552(%r14), %rdi
 	xorl	%ecx, %ecx
 	cmpb	$0, 104(%r14)
 	sete	%cl
-	movq	144(%r14), %rdi
-	movq	168(%r14), %r8
-	movl	(%r8,%rcx,4), %r12d
-	movq	$1, 552(%r14)
-	leaq	(%r12,%r12,4), %r8
-	movq	(%rdi,%r8,8), %r13
-	movzbl	8(%rdi,%r8,8), %ecx
-	movq	16(%rdi,%r8,8), %rbp
-	movq	$4, 8(%rdi,%r8,8)
-	movq	$0, 16(%rdi,%r8,8)
-	movq	168(%r14), %rdi
-	movl	4(%rdi,%r12,8), %r8d
-	cmpl	%r12d, %r8d
+	movq	144(%r14), %r9
+	movq	168(%r14), %r10
+	movl	(%r10,%rcx,4), %r12d
+	leaq	(%r12,%r12,4), %r10
+	movq	(%r9,%r10,8), %r13
+	movzbl	8(%r9,%r10,8), %ecx
+	movq	16(%r9,%r10,8), %rbp
+	movq	$4, 8(%r9,%r10,8)
+	movq	$0, 16(%r9,%r10,8)
+	movq	168(%r14), %r9
+	movl	4(%r9,%r12,8), %r10d
+	cmpl	%r12d, %r10d
 	je	.Lv0_9_1_proved_1_BB55_13
-# %bb.12:                               # %then.1.i.i.i249.i
-	movl	(%rdi,%r12,8), %r9d
-	movl	%r8d, 4(%rdi,%r9,8)
-	movl	%r9d, (%rdi,%r8,8)
-	movq	168(%r14), %rdi
-	movl	%r12d, 4(%rdi,%r12,8)
-	movl	%r12d, (%rdi,%r12,8)
+# %bb.12:                               # %then.1.i.i.i253.i
+	movl	(%r9,%r12,8), %r11d
+	movl	%r10d, 4(%r9,%r11,8)
+	movl	%r11d, (%r9,%r10,8)
+	movq	168(%r14), %r9
+	movl	%r12d, 4(%r9,%r12,8)
+	movl	%r12d, (%r9,%r12,8)
 	decq	192(%r14)
-.Lv0_9_1_proved_1_BB55_13:                              # %"bb8_tables::records::Records::take::<i64,28'bb8_c::Destruct++none::<i64>{{}}>.exit279.i"
-	movq	120(%r14), %r15
-	cmpq	%r15, %rdx
-	cmovaq	%rdx, %r15
+.Lv0_9_1_proved_1_BB55_13:                              # %"bb8_tables::records::Records::take::<i64,28'bb8_c::Destruct++none::<i64>{{}}>.exit283.i"
 	movq	320(%r14), %r11
-	movq	%r15, 120(%r14)
 	cmpb	$2, %cl
 	jne	.Lv0_9_1_proved_1_BB55_54
 # %bb.14:                               # %arm.15.i.i.i
 	leaq	136(%r14), %rcx
+	addq	%r8, %rdi
+	incq	%rdi
+	movq	%rdi, 544(%r14)
+	movq	$1, 552(%r14)
+	movq	$0, 560(%r14)
+	movq	120(%r14), %rdi
+	cmpq	%rdi, %rdx
+	cmovaq	%rdx, %rdi
+	movq	%rdi, 120(%r14)
 	leaq	1(%r11), %rdx
 	movq	%rdx, 320(%r14)
 	movdqu	456(%r14), %xmm0
@@ -8245,14 +8239,14 @@ v0_9_1_proved_1_bb8_get:                                # @v0_9_1_proved_1_bb8_g
 	movdqu	%xmm0, 456(%r14)
 	cmpb	$1, 4(%r14)
 	jne	.Lv0_9_1_proved_1_BB55_60
-# %bb.15:                               # %arm.1.i290.i
+# %bb.15:                               # %arm.1.i294.i
 	movq	304(%r14), %r8
 	movq	296(%r14), %rdx
 	addq	%r8, %rdx
 	movl	(%r14), %edi
 	subq	%rdx, %rdi
 	jbe	.Lv0_9_1_proved_1_BB55_60
-# %bb.16:                               # %"bb8_core::internals::decided::want_with_handle::<i64,28'bb8_c::Destruct++none::<i64>{{}}>.exit306.i"
+# %bb.16:                               # %"bb8_core::internals::decided::want_with_handle::<i64,28'bb8_c::Destruct++none::<i64>{{}}>.exit310.i"
 	movl	8(%r14), %r9d
 	addq	192(%r14), %r8
 	xorl	%edx, %edx
@@ -8264,7 +8258,7 @@ v0_9_1_proved_1_bb8_get:                                # @v0_9_1_proved_1_bb8_g
 	movdqa	%xmm0, (%rsp)
 	testq	%rdx, %rdx
 	je	.Lv0_9_1_proved_1_BB55_61
-# %bb.17:                               # %then.1.i309.i
+# %bb.17:                               # %then.1.i313.i
 	movq	%rsp, %rdi
 	movq	%rsi, 32(%rsp)                  # 8-byte Spill
 	movq	%rcx, %rsi
@@ -8297,14 +8291,14 @@ v0_9_1_proved_1_bb8_get:                                # @v0_9_1_proved_1_bb8_g
 	leaq	136(%r14), %rcx
 	cmpb	$0, 104(%r14)
 	je	.Lv0_9_1_proved_1_BB55_35
-# %bb.20:                               # %arm.2.i.i360.i
+# %bb.20:                               # %arm.2.i.i364.i
 	testq	%rdi, %rdi
 	je	.Lv0_9_1_proved_1_BB55_58
-# %bb.21:                               # %join.3.i8.i.i361.i
+# %bb.21:                               # %join.3.i8.i.i365.i
 	movq	%r10, 24(%rsp)                  # 8-byte Spill
 	movq	168(%r14), %rdi
 	jmp	.Lv0_9_1_proved_1_BB55_37
-.Lv0_9_1_proved_1_BB55_22:                              # %arm.7.i.i.thread121
+.Lv0_9_1_proved_1_BB55_22:                              # %arm.7.i.i.thread120
 	movq	120(%r14), %rcx
 	cmpq	%rcx, %rdx
 	cmovaq	%rdx, %rcx
@@ -8387,7 +8381,7 @@ v0_9_1_proved_1_bb8_get:                                # @v0_9_1_proved_1_bb8_g
 	movdqa	%xmm0, (%rsp)
 	testq	%rdx, %rdx
 	je	.Lv0_9_1_proved_1_BB55_45
-# %bb.33:                               # %then.1.i190.i
+# %bb.33:                               # %then.1.i193.i
 	movq	%rsp, %rdi
 	movq	%rsi, 32(%rsp)                  # 8-byte Spill
 	movq	%rcx, %rsi
@@ -8401,14 +8395,14 @@ v0_9_1_proved_1_bb8_get:                                # @v0_9_1_proved_1_bb8_g
 	movq	8(%rsp), %xmm0                  # xmm0 = mem[0],zero
 	movq	%rsp, %rcx
 	jmp	.Lv0_9_1_proved_1_BB55_45
-.Lv0_9_1_proved_1_BB55_35:                              # %arm.1.i.i415.i
+.Lv0_9_1_proved_1_BB55_35:                              # %arm.1.i.i419.i
 	testq	%rdi, %rdi
 	je	.Lv0_9_1_proved_1_BB55_58
-# %bb.36:                               # %join.3.i.i.i416.i
+# %bb.36:                               # %join.3.i.i.i420.i
 	movq	%r10, 24(%rsp)                  # 8-byte Spill
 	movq	168(%r14), %rdi
 	addq	$4, %rdi
-.Lv0_9_1_proved_1_BB55_37:                              # %arm.2.i364.i
+.Lv0_9_1_proved_1_BB55_37:                              # %arm.2.i368.i
 	movl	(%rdi), %r12d
 	movl	$4, %r8d
 	subq	%rdx, %r8
@@ -8425,7 +8419,7 @@ v0_9_1_proved_1_bb8_get:                                # @v0_9_1_proved_1_bb8_g
 	movl	4(%rdx,%r12,8), %r8d
 	cmpl	%r12d, %r8d
 	je	.Lv0_9_1_proved_1_BB55_39
-# %bb.38:                               # %then.1.i.i.i390.i
+# %bb.38:                               # %then.1.i.i.i394.i
 	movl	(%rdx,%r12,8), %r9d
 	movl	%r8d, 4(%rdx,%r9,8)
 	movl	%r9d, (%rdx,%r8,8)
@@ -8433,20 +8427,20 @@ v0_9_1_proved_1_bb8_get:                                # @v0_9_1_proved_1_bb8_g
 	movl	%r12d, 4(%rdx,%r12,8)
 	movl	%r12d, (%rdx,%r12,8)
 	decq	192(%r14)
-.Lv0_9_1_proved_1_BB55_39:                              # %"bb8_tables::records::Records::take::<i64,28'bb8_c::Destruct++none::<i64>{{}}>.exit420.i"
+.Lv0_9_1_proved_1_BB55_39:                              # %"bb8_tables::records::Records::take::<i64,28'bb8_c::Destruct++none::<i64>{{}}>.exit424.i"
 	cmpb	$2, %dil
 	jne	.Lv0_9_1_proved_1_BB55_34
 # %bb.40:                               # %arm.8.i71.i
 	cmpb	$1, 4(%r14)
 	jne	.Lv0_9_1_proved_1_BB55_48
-# %bb.41:                               # %arm.1.i435.i
+# %bb.41:                               # %arm.1.i439.i
 	movq	304(%r14), %r8
 	movq	296(%r14), %rdx
 	addq	%r8, %rdx
 	movl	(%r14), %edi
 	subq	%rdx, %rdi
 	jbe	.Lv0_9_1_proved_1_BB55_48
-# %bb.42:                               # %"bb8_core::internals::decided::want_with_handle::<i64,28'bb8_c::Destruct++none::<i64>{{}}>.exit451.i"
+# %bb.42:                               # %"bb8_core::internals::decided::want_with_handle::<i64,28'bb8_c::Destruct++none::<i64>{{}}>.exit455.i"
 	movl	8(%r14), %r9d
 	addq	192(%r14), %r8
 	xorl	%edx, %edx
@@ -8477,7 +8471,7 @@ v0_9_1_proved_1_bb8_get:                                # @v0_9_1_proved_1_bb8_g
 	movq	424(%r14), %rdi
 	testq	%rdi, %rdi
 	je	.Lv0_9_1_proved_1_BB55_59
-.Lv0_9_1_proved_1_BB55_64:                              # %arm.2.i.i154.i
+.Lv0_9_1_proved_1_BB55_64:                              # %arm.2.i.i155.i
 	leaq	-1(%rdi), %r8
 	movq	%r8, 424(%r14)
 	movq	328(%r14), %r8
@@ -8485,9 +8479,9 @@ v0_9_1_proved_1_bb8_get:                                # @v0_9_1_proved_1_bb8_g
 	movl	-4(%r9,%rdi,4), %ebx
 	leaq	(%rbx,%rbx,4), %rdi
 	movq	%r11, (%r8,%rdi,8)
-	pxor	%xmm0, %xmm0
-	movdqu	%xmm0, 8(%r8,%rdi,8)
-	movdqu	%xmm0, 24(%r8,%rdi,8)
+	xorps	%xmm0, %xmm0
+	movups	%xmm0, 8(%r8,%rdi,8)
+	movups	%xmm0, 24(%r8,%rdi,8)
 	movq	328(%r14), %rdi
 	leaq	(%rbx,%rbx,4), %r8
 	cmpb	$1, 24(%rdi,%r8,8)
@@ -8530,11 +8524,11 @@ v0_9_1_proved_1_bb8_get:                                # @v0_9_1_proved_1_bb8_g
 	cmovaeq	%rdx, %rdi
 	cmpq	%r9, %rdi
 	cmovaeq	%r9, %rdi
-	pxor	%xmm0, %xmm0
-	movdqa	%xmm0, (%rsp)
+	xorps	%xmm0, %xmm0
+	movaps	%xmm0, (%rsp)
 	testq	%rdi, %rdi
 	je	.Lv0_9_1_proved_1_BB55_70
-# %bb.68:                               # %then.1.i177.i
+# %bb.68:                               # %then.1.i180.i
 	movq	%rsp, %rdi
 	movl	$1, %edx
 	movq	%rsi, %r15
@@ -8564,7 +8558,7 @@ v0_9_1_proved_1_bb8_get:                                # @v0_9_1_proved_1_bb8_g
 	jmp	.Lv0_9_1_proved_1_BB55_65
 .Lv0_9_1_proved_1_BB55_69:                              # %"bb8_core::internals::decided::due_waiting::<i64,28'bb8_c::Destruct++none::<i64>{{}}>.exit.thread.i"
 	movq	$0, 8(%rsp)
-.Lv0_9_1_proved_1_BB55_70:                              # %join.3.i178.i
+.Lv0_9_1_proved_1_BB55_70:                              # %join.3.i181.i
 	movq	(%rcx), %rcx
 	movl	$0, 12(%rsp)
 .Lv0_9_1_proved_1_BB55_71:                              # %arm.7.i.i.i
@@ -8577,7 +8571,7 @@ v0_9_1_proved_1_bb8_get:                                # @v0_9_1_proved_1_bb8_g
 	jmp	.Lv0_9_1_proved_1_BB55_72
 .Lv0_9_1_proved_1_BB55_44:                              # %"bb8_core::internals::decided::want_with_handle::<i64,28'bb8_c::Destruct++none::<i64>{{}}>.exit.thread.i"
 	pxor	%xmm0, %xmm0
-.Lv0_9_1_proved_1_BB55_45:                              # %"bb8_tables::records::Records::grant::<i64,28'bb8_c::Destruct++none::<i64>{{}}>.exit194.i"
+.Lv0_9_1_proved_1_BB55_45:                              # %"bb8_tables::records::Records::grant::<i64,28'bb8_c::Destruct++none::<i64>{{}}>.exit197.i"
 	movq	(%rcx), %rcx
 	cmpb	$1, 12(%r14)
 	jne	.Lv0_9_1_proved_1_BB55_53
@@ -8586,7 +8580,7 @@ v0_9_1_proved_1_bb8_get:                                # @v0_9_1_proved_1_bb8_g
 	movq	424(%r14), %rdx
 	testq	%rdx, %rdx
 	je	.Lv0_9_1_proved_1_BB55_47
-.Lv0_9_1_proved_1_BB55_51:                              # %arm.2.i.i43
+.Lv0_9_1_proved_1_BB55_51:                              # %arm.2.i.i42
 	leaq	-1(%rdx), %rdi
 	movq	%rdi, 424(%r14)
 	movq	328(%r14), %rdi
@@ -8598,7 +8592,7 @@ v0_9_1_proved_1_bb8_get:                                # @v0_9_1_proved_1_bb8_g
 	movdqu	%xmm1, 8(%rdi,%rdx,8)
 	movdqu	%xmm1, 24(%rdi,%rdx,8)
 	jmp	.Lv0_9_1_proved_1_BB55_52
-.Lv0_9_1_proved_1_BB55_48:                              # %"bb8_core::internals::decided::want_with_handle::<i64,28'bb8_c::Destruct++none::<i64>{{}}>.exit451.i.thread"
+.Lv0_9_1_proved_1_BB55_48:                              # %"bb8_core::internals::decided::want_with_handle::<i64,28'bb8_c::Destruct++none::<i64>{{}}>.exit455.i.thread"
 	pxor	%xmm0, %xmm0
 .Lv0_9_1_proved_1_BB55_49:                              # %"bb8_tables::records::Records::grant::<i64,28'bb8_c::Destruct++none::<i64>{{}}>.exit"
 	movq	(%rcx), %rcx
@@ -8611,7 +8605,7 @@ v0_9_1_proved_1_bb8_get:                                # @v0_9_1_proved_1_bb8_g
 	jne	.Lv0_9_1_proved_1_BB55_51
 .Lv0_9_1_proved_1_BB55_47:
 	xorl	%ebx, %ebx
-.Lv0_9_1_proved_1_BB55_52:                              # %"bb8_tables::gets::Gets::bear_holding.exit72"
+.Lv0_9_1_proved_1_BB55_52:                              # %"bb8_tables::gets::Gets::bear_holding.exit71"
 	movq	328(%r14), %rdx
 	leaq	(%rbx,%rbx,4), %rdi
 	movw	$2, 8(%rdx,%rdi,8)
@@ -8634,6 +8628,10 @@ v0_9_1_proved_1_bb8_get:                                # @v0_9_1_proved_1_bb8_g
 	incq	464(%r14)
 	jmp	.Lv0_9_1_proved_1_BB55_62
 .Lv0_9_1_proved_1_BB55_54:                              # %arm.7.i.i
+	movq	120(%r14), %r15
+	cmpq	%r15, %rdx
+	cmovaq	%rdx, %r15
+	movq	%r15, 120(%r14)
 	cmpq	$-1, %r11
 	je	.Lv0_9_1_proved_1_BB55_23
 # %bb.55:                               # %arm.7.i.i.join.3.i47.i_crit_edge
@@ -8641,23 +8639,23 @@ v0_9_1_proved_1_bb8_get:                                # @v0_9_1_proved_1_bb8_g
 	movq	448(%r14), %rdi
 	cmpq	%rdi, %rcx
 	jb	.Lv0_9_1_proved_1_BB55_19
-.Lv0_9_1_proved_1_BB55_56:                              # %"bb8_tables::gets::Gets::make_room_for_one.exit333.i"
+.Lv0_9_1_proved_1_BB55_56:                              # %"bb8_tables::gets::Gets::make_room_for_one.exit337.i"
 	movq	%rsi, %rbx
 	movq	%rax, %r12
 	leaq	320(%r14), %rdi
 	callq	"v0_9_1_proved_1_bb8_tables::gets::Gets::make_room"
 	testb	%al, %al
 	jne	.Lv0_9_1_proved_1_BB55_75
-# %bb.57:                               # %"bb8_tables::gets::Gets::make_room_for_one.exit333.join.6.i58_crit_edge.i"
+# %bb.57:                               # %"bb8_tables::gets::Gets::make_room_for_one.exit337.join.6.i58_crit_edge.i"
 	movq	320(%r14), %r11
 	movq	%r12, %rax
 	movq	%rbx, %rsi
 	jmp	.Lv0_9_1_proved_1_BB55_19
-.Lv0_9_1_proved_1_BB55_60:                              # %"bb8_core::internals::decided::want_with_handle::<i64,28'bb8_c::Destruct++none::<i64>{{}}>.exit306.thread.i"
+.Lv0_9_1_proved_1_BB55_60:                              # %"bb8_core::internals::decided::want_with_handle::<i64,28'bb8_c::Destruct++none::<i64>{{}}>.exit310.thread.i"
 	pxor	%xmm0, %xmm0
-.Lv0_9_1_proved_1_BB55_61:                              # %arm.2.i.i467.thread.i
+.Lv0_9_1_proved_1_BB55_61:                              # %arm.2.i.i471.thread.i
 	movq	(%rcx), %rcx
-.Lv0_9_1_proved_1_BB55_62:                              # %arm.2.i.i467.i.thread
+.Lv0_9_1_proved_1_BB55_62:                              # %arm.2.i.i471.i.thread
 	movq	%r14, (%rsi)
 	movl	$4, %edx
 	xorl	%ebx, %ebx
