@@ -109,18 +109,18 @@ impl<M: ManageConnection> Shared<M> {
         place: usize,
         conn: Option<M::Connection>,
     ) {
-        let closed = match conn {
+        match conn {
             Some(conn) if told.is(kept) => {
                 locked.shelf.put(place, conn);
-                None
+                self.settle(locked, at, told, None);
             }
             conn => {
-                assert!(told.is(Kind::Closed) || told.is(Kind::Late), "{told:?}");
+                // (`{told:?}` would have the reference lie in memory, on the way above, too.)
+                assert!(told.is(Kind::Closed) || told.is(Kind::Late), "{:?}", *told);
                 locked.shelf.free(place);
-                conn
+                self.settle(locked, at, told, conn);
             }
-        };
-        self.settle(locked, at, told, closed);
+        }
     }
 
     /// Goes on after a step at this moment: unlocks, drops what it closed, has opened what it
@@ -135,7 +135,7 @@ impl<M: ManageConnection> Shared<M> {
     ) {
         let due = locked.is_due(told);
         let notified = told.notified();
-        if due || notified.is_some() || closed.is_some() {
+        if closed.is_some() || notified.is_some() || due {
             self.follow(locked, at, due, notified, closed);
         }
     }
