@@ -313,7 +313,7 @@ fn time_out<C, V, P, E, X: GetHome<C, Part = P> + Outside<C, E, Checking = V>>(
 }
 
 /// The end of a poll that has no answer yet: the deadline is compared.
-fn settle<C, V, P, E, X: GetHome<C, Part = P> + Outside<C, E, Checking = V>>(
+pub(crate) fn settle<C, V, P, E, X: GetHome<C, Part = P> + Outside<C, E, Checking = V>>(
     pool: &mut X,
     moment: Moment,
     stage: Stage<C, V, P>,
@@ -341,7 +341,7 @@ fn settle<C, V, P, E, X: GetHome<C, Part = P> + Outside<C, E, Checking = V>>(
 
 /// The end of a poll: it answers, or its deadline is compared.
 #[inline(always)]
-pub(crate) fn end<C, V, P, E, X: GetHome<C, Part = P> + Outside<C, E, Checking = V>>(
+fn end<C, V, P, E, X: GetHome<C, Part = P> + Outside<C, E, Checking = V>>(
     pool: &mut X,
     moment: Moment,
     next: Next<C, V, P, E>,

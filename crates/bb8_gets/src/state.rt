@@ -2,11 +2,11 @@
 ghost use Rattle.std.specs.Prelude.{◌≡◌, true};
 ghost use Rattle.std.specs.Duration.{as_nanos};
 ghost use Rattle.bb8_gets.specs.Polls.{holds_nothing, is_done, rest_of, AfterStart, EndsPoll, GetPolls, Starts, CancelsFree, CancelsHeld, Cancels};
-ghost use Rattle.bb8_gets.specs.declared.state.Stage.TheVariants.{Fresh as IsFresh};
+ghost use Rattle.bb8_gets.specs.declared.state.Stage.TheVariants.{Fresh as IsFresh, Done as IsDone};
 
 use super::home::{FirstTry, GetHome, LetGo, Taken, Tried};
 use super::outside::Outside;
-use super::rows::{ask, begin, end, follow, go, leave, take_back};
+use super::rows::{ask, begin, follow, go, leave, settle, take_back};
 use bb8_core::api::{Moment, RunError};
 use bb8_core::internals::{GetKey, Reason, Unfit};
 use futures::task::Poll;
@@ -174,17 +174,24 @@ impl<C, V, P> GetState<C, V, P> {
         timeout: Duration,
         first: Result<FirstTry<C, P>, Unfit>,
     ) -> Poll<Result<Taken<C, P>, RunError<E>>>
-        requires { holds_nothing self.old.stage ≡ true }
+        requires { self.old.stage ≡ IsDone }
         ensures { (next : _) × (x1 : X)
             × AfterStart X.GetHome X.Outside moment first (as_nanos timeout) pool next x1
             × ((x' : X) × EndsPoll X.GetHome X.Outside moment next x1
             (record { answer = result; stage = self.new.stage }) x' × X.goes x') }
     {
-        let next = follow(&mut pool, moment, timeout, first);
-        let Settled { answer, stage } = end(&mut pool, moment, next);
-        pool.go();
-        self.stand(stage);
-        answer
+        match follow(&mut pool, moment, timeout, first) {
+            Next::Answer(answer) => {
+                pool.go();
+                Poll::Ready(answer)
+            }
+            Next::Stand(stage) => {
+                let Settled { answer, stage } = settle(&mut pool, moment, stage);
+                pool.go();
+                self.stand(stage);
+                answer
+            }
+        }
     }
 
     /// As `poll_step`, with a home of its own.
