@@ -161,9 +161,9 @@ impl<C: Drop, A> PoolInternals<C, A> {
                 self.latest = now;
                 let get = self.gets.begin_and_end();
                 self.counters.started += 1;
-                self.counters.serve(None, now);
                 let wanted = want_with_handle(&self.config, &self.records);
                 let grant = self.records.grant(wanted, false);
+                self.counters.serve(None, now);
                 Some(AtOnce {
                     get,
                     key,
