@@ -4630,24 +4630,21 @@ v0_9_1_proved_1_bb8_serve_at_once:                      // @v0_9_1_proved_1_bb8_
 	ldr	q0, [x11, :lo12:.Lv0_9_1_proved_1_CPI41_1]
 	add	x10, x20, #552
 	add	x9, x9, #1
-	add	x11, x20, #456
 	str	x9, [x20, #544]
 	str	q0, [x10]
-	mov	w10, #1                         // =0x1
-	ldr	x23, [x20, #320]
-	dup	v0.2d, x10
-	ldrb	w10, [x20, #4]
-	add	x9, x23, #1
-	str	x9, [x20, #320]
 	ldr	x9, [x20, #120]
-	ldr	q1, [x11]
+	ldr	x23, [x20, #320]
+	ldr	x10, [x20, #456]
+	ldrb	w11, [x20, #4]
 	cmp	x1, x9
-	add	v0.2d, v1.2d, v0.2d
+	add	x12, x23, #1
+	add	x10, x10, #1
 	csel	x9, x1, x9, hi
-	cmp	w10, #1
+	cmp	w11, #1
+	str	x12, [x20, #320]
 	str	x9, [x20, #120]
 	add	x9, x20, #136
-	str	q0, [x11]
+	str	x10, [x20, #456]
 	b.ne	.Lv0_9_1_proved_1_BB41_10
 // %bb.8:                               // %arm.1.i.i
 	ldp	x11, x10, [x20, #296]
@@ -4667,11 +4664,14 @@ v0_9_1_proved_1_bb8_serve_at_once:                      // @v0_9_1_proved_1_bb8_
 	cbnz	x2, .Lv0_9_1_proved_1_BB41_14
 .Lv0_9_1_proved_1_BB41_10:                              // %"bb8_core::internals::decided::want_with_handle::<i64,28'bb8_c::Destruct++none::<i64>{{}}>.exit.thread.i"
 	movi	v0.2d, #0000000000000000
-.Lv0_9_1_proved_1_BB41_11:                              // %arm.2.i21.i
+.Lv0_9_1_proved_1_BB41_11:                              // %arm.2.i22.i
+	ldr	x10, [x20, #464]
 	ldr	x9, [x9]
+	add	x10, x10, #1
+	str	x10, [x20, #464]
 	mov	w10, #4                         // =0x4
 	b	.Lv0_9_1_proved_1_BB41_13
-.Lv0_9_1_proved_1_BB41_12:                              // %"bb8_core::internals::PoolInternals::serve_at_once::<#9da9a31b56a99434>.exit.thread68.i"
+.Lv0_9_1_proved_1_BB41_12:                              // %"bb8_core::internals::PoolInternals::serve_at_once::<#9da9a31b56a99434>.exit.thread69.i"
 	mov	w10, wzr
 	mov	x22, xzr
 	mov	x19, xzr
@@ -4693,7 +4693,7 @@ v0_9_1_proved_1_bb8_serve_at_once:                      // @v0_9_1_proved_1_bb8_
 	ldp	x29, x30, [sp, #16]             // 16-byte Folded Reload
 	add	sp, sp, #96
 	ret
-.Lv0_9_1_proved_1_BB41_14:                              // %then.1.i17.i
+.Lv0_9_1_proved_1_BB41_14:                              // %then.1.i14.i
 	mov	x24, x0
 	mov	x0, sp
 	add	x1, x20, #136
@@ -8124,31 +8124,28 @@ v0_9_1_proved_1_bb8_get:                                // @v0_9_1_proved_1_bb8_
 	ldr	q0, [x11, :lo12:.Lv0_9_1_proved_1_CPI55_1]
 	add	x10, x19, #552
 	add	x9, x9, #1
-	mov	w11, #1                         // =0x1
 	str	x9, [x19, #544]
-	add	x9, x20, #1
 	str	q0, [x10]
-	add	x10, x19, #456
-	dup	v0.2d, x11
-	str	x9, [x19, #320]
+	add	x10, x20, #1
 	ldr	x9, [x19, #120]
-	ldrb	w11, [x19, #4]
-	ldr	q1, [x10]
+	ldr	x11, [x19, #456]
+	ldrb	w12, [x19, #4]
+	str	x10, [x19, #320]
 	cmp	x1, x9
-	add	v0.2d, v1.2d, v0.2d
+	add	x10, x11, #1
 	csel	x9, x1, x9, hi
-	cmp	w11, #1
+	cmp	w12, #1
+	str	x10, [x19, #456]
 	str	x9, [x19, #120]
 	add	x9, x19, #136
-	str	q0, [x10]
 	b.ne	.Lv0_9_1_proved_1_BB55_18
-// %bb.16:                              // %arm.1.i294.i
+// %bb.16:                              // %arm.1.i290.i
 	ldp	x11, x10, [x19, #296]
 	ldr	w12, [x19]
 	add	x11, x10, x11
 	subs	x11, x12, x11
 	b.ls	.Lv0_9_1_proved_1_BB55_18
-// %bb.17:                              // %"bb8_core::internals::decided::want_with_handle::<i64,28'bb8_c::Destruct++none::<i64>{{}}>.exit310.i"
+// %bb.17:                              // %"bb8_core::internals::decided::want_with_handle::<i64,28'bb8_c::Destruct++none::<i64>{{}}>.exit306.i"
 	ldr	x12, [x19, #192]
 	ldr	w13, [x19, #8]
 	stp	xzr, xzr, [sp]
@@ -8158,11 +8155,14 @@ v0_9_1_proved_1_bb8_get:                                // @v0_9_1_proved_1_bb8_
 	cmp	x11, x10
 	csel	x2, x11, x10, lo
 	cbnz	x2, .Lv0_9_1_proved_1_BB55_72
-.Lv0_9_1_proved_1_BB55_18:                              // %"bb8_core::internals::decided::want_with_handle::<i64,28'bb8_c::Destruct++none::<i64>{{}}>.exit310.thread.i"
+.Lv0_9_1_proved_1_BB55_18:                              // %"bb8_core::internals::decided::want_with_handle::<i64,28'bb8_c::Destruct++none::<i64>{{}}>.exit306.thread.i"
 	movi	v0.2d, #0000000000000000
 .Lv0_9_1_proved_1_BB55_19:                              // %arm.2.i.i471.thread.i
+	ldr	x10, [x19, #464]
 	ldr	x9, [x9]
 	mov	x24, xzr
+	add	x10, x10, #1
+	str	x10, [x19, #464]
 	b	.Lv0_9_1_proved_1_BB55_69
 .Lv0_9_1_proved_1_BB55_20:                              // %arm.7.i.i.thread
 	ldr	x11, [x19, #120]
@@ -8613,7 +8613,7 @@ v0_9_1_proved_1_bb8_get:                                // @v0_9_1_proved_1_bb8_
 	ldp	x29, x30, [sp, #16]             // 16-byte Folded Reload
 	add	sp, sp, #112
 	ret
-.Lv0_9_1_proved_1_BB55_72:                              // %then.1.i313.i
+.Lv0_9_1_proved_1_BB55_72:                              // %then.1.i309.i
 	mov	x24, x0
 	mov	x0, sp
 	add	x1, x19, #136

@@ -4623,18 +4623,15 @@ v0_9_1_proved_1_bb8_serve_at_once:                      # @v0_9_1_proved_1_bb8_s
 	movq	%rcx, 544(%r14)
 	movq	$1, 552(%r14)
 	movq	$0, 560(%r14)
-	movq	120(%r14), %rdi
-	cmpq	%rdi, %rdx
-	cmovaq	%rdx, %rdi
-	leaq	136(%r14), %rcx
-	movq	%rdi, 120(%r14)
+	movq	120(%r14), %rcx
+	cmpq	%rcx, %rdx
+	cmovaq	%rdx, %rcx
+	movq	%rcx, 120(%r14)
 	movq	320(%r14), %rbp
-	leaq	1(%rbp), %rdx
-	movq	%rdx, 320(%r14)
-	movdqu	456(%r14), %xmm0
-	pcmpeqd	%xmm1, %xmm1
-	psubq	%xmm1, %xmm0
-	movdqu	%xmm0, 456(%r14)
+	leaq	1(%rbp), %rcx
+	movq	%rcx, 320(%r14)
+	incq	456(%r14)
+	leaq	136(%r14), %rcx
 	cmpb	$1, 4(%r14)
 	jne	.Lv0_9_1_proved_1_BB41_10
 # %bb.9:                                # %arm.1.i.i
@@ -4652,11 +4649,11 @@ v0_9_1_proved_1_bb8_serve_at_once:                      # @v0_9_1_proved_1_bb8_s
 	cmovaeq	%r9, %rdx
 	cmpq	%rdx, %rdi
 	cmovbq	%rdi, %rdx
-	pxor	%xmm0, %xmm0
-	movdqa	%xmm0, (%rsp)
+	xorps	%xmm0, %xmm0
+	movaps	%xmm0, (%rsp)
 	testq	%rdx, %rdx
 	je	.Lv0_9_1_proved_1_BB41_13
-# %bb.12:                               # %then.1.i17.i
+# %bb.12:                               # %then.1.i14.i
 	movq	%rsp, %rdi
 	movq	%rsi, 16(%rsp)                  # 8-byte Spill
 	movq	%rcx, %rsi
@@ -4665,12 +4662,12 @@ v0_9_1_proved_1_bb8_serve_at_once:                      # @v0_9_1_proved_1_bb8_s
 	callq	"v0_9_1_proved_1_bb8_tables::records::Records::grant_some::<i64,28'bb8_c::Destruct++none::<i64>{{}}>"
 	movq	16(%rsp), %rsi                  # 8-byte Reload
 	movq	%rbx, %rax
-	movq	8(%rsp), %xmm0                  # xmm0 = mem[0],zero
+	movsd	8(%rsp), %xmm0                  # xmm0 = mem[0],zero
 	movq	%rsp, %rcx
 	jmp	.Lv0_9_1_proved_1_BB41_13
-.Lv0_9_1_proved_1_BB41_7:                               # %"bb8_core::internals::PoolInternals::serve_at_once::<#9da9a31b56a99434>.exit.thread68.i"
+.Lv0_9_1_proved_1_BB41_7:                               # %"bb8_core::internals::PoolInternals::serve_at_once::<#9da9a31b56a99434>.exit.thread69.i"
 	movq	%r14, (%rsi)
-	pxor	%xmm0, %xmm0
+	xorps	%xmm0, %xmm0
 	xorl	%ecx, %ecx
 	xorl	%r12d, %r12d
 	xorl	%r15d, %r15d
@@ -4686,7 +4683,7 @@ v0_9_1_proved_1_bb8_serve_at_once:                      # @v0_9_1_proved_1_bb8_s
 	movq	%rbp, 32(%rax)
 	movq	$0, 40(%rax)
 	movq	%rdx, 48(%rax)
-	movq	%xmm0, 56(%rax)
+	movlps	%xmm0, 56(%rax)
 	addq	$24, %rsp
 	popq	%rbx
 	popq	%r12
@@ -4696,9 +4693,10 @@ v0_9_1_proved_1_bb8_serve_at_once:                      # @v0_9_1_proved_1_bb8_s
 	popq	%rbp
 	retq
 .Lv0_9_1_proved_1_BB41_10:                              # %"bb8_core::internals::decided::want_with_handle::<i64,28'bb8_c::Destruct++none::<i64>{{}}>.exit.thread.i"
-	pxor	%xmm0, %xmm0
-.Lv0_9_1_proved_1_BB41_13:                              # %arm.2.i21.i
+	xorps	%xmm0, %xmm0
+.Lv0_9_1_proved_1_BB41_13:                              # %arm.2.i22.i
 	movq	(%rcx), %rdx
+	incq	464(%r14)
 	movq	%r14, (%rsi)
 	movl	$4, %ecx
 	jmp	.Lv0_9_1_proved_1_BB41_14
@@ -8173,7 +8171,7 @@ v0_9_1_proved_1_bb8_get:                                # @v0_9_1_proved_1_bb8_g
 	jmp	.Lv0_9_1_proved_1_BB55_27
 .Lv0_9_1_proved_1_BB55_7:                               # %"bb8_core::internals::PoolInternals::start::<#9da9a31b56a99434>.exit.i"
 	movq	%r14, (%rsi)
-	pxor	%xmm0, %xmm0
+	xorps	%xmm0, %xmm0
 	xorl	%edx, %edx
 	jmp	.Lv0_9_1_proved_1_BB55_24
 .Lv0_9_1_proved_1_BB55_8:                               # %else.4.i.i.i
@@ -8189,18 +8187,18 @@ v0_9_1_proved_1_bb8_get:                                # @v0_9_1_proved_1_bb8_g
 	cmpl	$0, 192(%r14)
 	je	.Lv0_9_1_proved_1_BB55_18
 # %bb.11:                               # %join.13.i.i.i
-	movq	544(%r14), %rdi
-	movq	560(%r14), %r8
-	addq	552(%r14), %rdi
-	xorl	%ecx, %ecx
+	movq	544(%r14), %rcx
+	movq	560(%r14), %rdi
+	addq	552(%r14), %rcx
+	xorl	%r8d, %r8d
 	cmpb	$0, 104(%r14)
-	sete	%cl
+	sete	%r8b
 	movq	144(%r14), %r9
 	movq	168(%r14), %r10
-	movl	(%r10,%rcx,4), %r12d
+	movl	(%r10,%r8,4), %r12d
 	leaq	(%r12,%r12,4), %r10
 	movq	(%r9,%r10,8), %r13
-	movzbl	8(%r9,%r10,8), %ecx
+	movzbl	8(%r9,%r10,8), %r8d
 	movq	16(%r9,%r10,8), %rbp
 	movq	$4, 8(%r9,%r10,8)
 	movq	$0, 16(%r9,%r10,8)
@@ -8218,35 +8216,32 @@ v0_9_1_proved_1_bb8_get:                                # @v0_9_1_proved_1_bb8_g
 	decq	192(%r14)
 .Lv0_9_1_proved_1_BB55_13:                              # %"bb8_tables::records::Records::take::<i64,28'bb8_c::Destruct++none::<i64>{{}}>.exit283.i"
 	movq	320(%r14), %r11
-	cmpb	$2, %cl
+	cmpb	$2, %r8b
 	jne	.Lv0_9_1_proved_1_BB55_54
 # %bb.14:                               # %arm.15.i.i.i
-	leaq	136(%r14), %rcx
-	addq	%r8, %rdi
-	incq	%rdi
-	movq	%rdi, 544(%r14)
+	addq	%rdi, %rcx
+	incq	%rcx
+	movq	%rcx, 544(%r14)
 	movq	$1, 552(%r14)
 	movq	$0, 560(%r14)
-	movq	120(%r14), %rdi
-	cmpq	%rdi, %rdx
-	cmovaq	%rdx, %rdi
-	movq	%rdi, 120(%r14)
-	leaq	1(%r11), %rdx
-	movq	%rdx, 320(%r14)
-	movdqu	456(%r14), %xmm0
-	pcmpeqd	%xmm1, %xmm1
-	psubq	%xmm1, %xmm0
-	movdqu	%xmm0, 456(%r14)
+	movq	120(%r14), %rcx
+	cmpq	%rcx, %rdx
+	cmovaq	%rdx, %rcx
+	movq	%rcx, 120(%r14)
+	leaq	1(%r11), %rcx
+	movq	%rcx, 320(%r14)
+	incq	456(%r14)
+	leaq	136(%r14), %rcx
 	cmpb	$1, 4(%r14)
 	jne	.Lv0_9_1_proved_1_BB55_60
-# %bb.15:                               # %arm.1.i294.i
+# %bb.15:                               # %arm.1.i290.i
 	movq	304(%r14), %r8
 	movq	296(%r14), %rdx
 	addq	%r8, %rdx
 	movl	(%r14), %edi
 	subq	%rdx, %rdi
 	jbe	.Lv0_9_1_proved_1_BB55_60
-# %bb.16:                               # %"bb8_core::internals::decided::want_with_handle::<i64,28'bb8_c::Destruct++none::<i64>{{}}>.exit310.i"
+# %bb.16:                               # %"bb8_core::internals::decided::want_with_handle::<i64,28'bb8_c::Destruct++none::<i64>{{}}>.exit306.i"
 	movl	8(%r14), %r9d
 	addq	192(%r14), %r8
 	xorl	%edx, %edx
@@ -8254,11 +8249,11 @@ v0_9_1_proved_1_bb8_get:                                # @v0_9_1_proved_1_bb8_g
 	cmovaeq	%r9, %rdx
 	cmpq	%rdx, %rdi
 	cmovbq	%rdi, %rdx
-	pxor	%xmm0, %xmm0
-	movdqa	%xmm0, (%rsp)
+	xorps	%xmm0, %xmm0
+	movaps	%xmm0, (%rsp)
 	testq	%rdx, %rdx
 	je	.Lv0_9_1_proved_1_BB55_61
-# %bb.17:                               # %then.1.i313.i
+# %bb.17:                               # %then.1.i309.i
 	movq	%rsp, %rdi
 	movq	%rsi, 32(%rsp)                  # 8-byte Spill
 	movq	%rcx, %rsi
@@ -8269,7 +8264,7 @@ v0_9_1_proved_1_bb8_get:                                # @v0_9_1_proved_1_bb8_g
 	movq	%r15, %r11
 	movq	32(%rsp), %rsi                  # 8-byte Reload
 	movq	%rbx, %rax
-	movq	8(%rsp), %xmm0                  # xmm0 = mem[0],zero
+	movsd	8(%rsp), %xmm0                  # xmm0 = mem[0],zero
 	movq	%rsp, %rcx
 	jmp	.Lv0_9_1_proved_1_BB55_61
 .Lv0_9_1_proved_1_BB55_18:                              # %arm.7.i.i.thread
@@ -8310,8 +8305,8 @@ v0_9_1_proved_1_bb8_get:                                # @v0_9_1_proved_1_bb8_g
 	addq	%rdx, %rcx
 	incq	%rcx
 	movq	%rcx, 544(%r14)
-	pxor	%xmm0, %xmm0
-	movdqu	%xmm0, 552(%r14)
+	xorps	%xmm0, %xmm0
+	movups	%xmm0, 552(%r14)
 	movq	%r14, (%rsi)
 	movl	$3, %edx
 .Lv0_9_1_proved_1_BB55_24:                              # %"bb8_c::bb8_get.exit"
@@ -8377,8 +8372,8 @@ v0_9_1_proved_1_bb8_get:                                # @v0_9_1_proved_1_bb8_g
 	cmovaeq	%r9, %rdx
 	cmpq	%rdx, %rdi
 	cmovbq	%rdi, %rdx
-	pxor	%xmm0, %xmm0
-	movdqa	%xmm0, (%rsp)
+	xorps	%xmm0, %xmm0
+	movaps	%xmm0, (%rsp)
 	testq	%rdx, %rdx
 	je	.Lv0_9_1_proved_1_BB55_45
 # %bb.33:                               # %then.1.i193.i
@@ -8392,7 +8387,7 @@ v0_9_1_proved_1_bb8_get:                                # @v0_9_1_proved_1_bb8_g
 	movq	%r15, %r11
 	movq	32(%rsp), %rsi                  # 8-byte Reload
 	movq	%rbx, %rax
-	movq	8(%rsp), %xmm0                  # xmm0 = mem[0],zero
+	movsd	8(%rsp), %xmm0                  # xmm0 = mem[0],zero
 	movq	%rsp, %rcx
 	jmp	.Lv0_9_1_proved_1_BB55_45
 .Lv0_9_1_proved_1_BB55_35:                              # %arm.1.i.i419.i
@@ -8448,8 +8443,8 @@ v0_9_1_proved_1_bb8_get:                                # @v0_9_1_proved_1_bb8_g
 	cmovaeq	%r9, %rdx
 	cmpq	%rdx, %rdi
 	cmovbq	%rdi, %rdx
-	pxor	%xmm0, %xmm0
-	movdqa	%xmm0, (%rsp)
+	xorps	%xmm0, %xmm0
+	movaps	%xmm0, (%rsp)
 	testq	%rdx, %rdx
 	je	.Lv0_9_1_proved_1_BB55_49
 # %bb.43:                               # %then.1.i
@@ -8463,7 +8458,7 @@ v0_9_1_proved_1_bb8_get:                                # @v0_9_1_proved_1_bb8_g
 	movq	%r15, %r11
 	movq	32(%rsp), %rsi                  # 8-byte Reload
 	movq	%rbx, %rax
-	movq	8(%rsp), %xmm0                  # xmm0 = mem[0],zero
+	movsd	8(%rsp), %xmm0                  # xmm0 = mem[0],zero
 	movq	%rsp, %rcx
 	jmp	.Lv0_9_1_proved_1_BB55_49
 .Lv0_9_1_proved_1_BB55_58:
@@ -8562,7 +8557,7 @@ v0_9_1_proved_1_bb8_get:                                # @v0_9_1_proved_1_bb8_g
 	movq	(%rcx), %rcx
 	movl	$0, 12(%rsp)
 .Lv0_9_1_proved_1_BB55_71:                              # %arm.7.i.i.i
-	movq	8(%rsp), %xmm0                  # xmm0 = mem[0],zero
+	movsd	8(%rsp), %xmm0                  # xmm0 = mem[0],zero
 	movq	%r14, (%rsi)
 	movl	$6, %edx
 	xorl	%r13d, %r13d
@@ -8570,7 +8565,7 @@ v0_9_1_proved_1_bb8_get:                                # @v0_9_1_proved_1_bb8_g
 	xorl	%ebp, %ebp
 	jmp	.Lv0_9_1_proved_1_BB55_72
 .Lv0_9_1_proved_1_BB55_44:                              # %"bb8_core::internals::decided::want_with_handle::<i64,28'bb8_c::Destruct++none::<i64>{{}}>.exit.thread.i"
-	pxor	%xmm0, %xmm0
+	xorps	%xmm0, %xmm0
 .Lv0_9_1_proved_1_BB55_45:                              # %"bb8_tables::records::Records::grant::<i64,28'bb8_c::Destruct++none::<i64>{{}}>.exit197.i"
 	movq	(%rcx), %rcx
 	cmpb	$1, 12(%r14)
@@ -8588,12 +8583,12 @@ v0_9_1_proved_1_bb8_get:                                # @v0_9_1_proved_1_bb8_g
 	movl	-4(%r8,%rdx,4), %ebx
 	leaq	(%rbx,%rbx,4), %rdx
 	movq	%r11, (%rdi,%rdx,8)
-	pxor	%xmm1, %xmm1
-	movdqu	%xmm1, 8(%rdi,%rdx,8)
-	movdqu	%xmm1, 24(%rdi,%rdx,8)
+	xorps	%xmm1, %xmm1
+	movups	%xmm1, 8(%rdi,%rdx,8)
+	movups	%xmm1, 24(%rdi,%rdx,8)
 	jmp	.Lv0_9_1_proved_1_BB55_52
 .Lv0_9_1_proved_1_BB55_48:                              # %"bb8_core::internals::decided::want_with_handle::<i64,28'bb8_c::Destruct++none::<i64>{{}}>.exit455.i.thread"
-	pxor	%xmm0, %xmm0
+	xorps	%xmm0, %xmm0
 .Lv0_9_1_proved_1_BB55_49:                              # %"bb8_tables::records::Records::grant::<i64,28'bb8_c::Destruct++none::<i64>{{}}>.exit"
 	movq	(%rcx), %rcx
 	cmpb	$1, 12(%r14)
@@ -8625,7 +8620,6 @@ v0_9_1_proved_1_bb8_get:                                # @v0_9_1_proved_1_bb8_g
 	movq	$1, 552(%r14)
 	movq	$0, 560(%r14)
 	incq	320(%r14)
-	incq	464(%r14)
 	jmp	.Lv0_9_1_proved_1_BB55_62
 .Lv0_9_1_proved_1_BB55_54:                              # %arm.7.i.i
 	movq	120(%r14), %r15
@@ -8651,11 +8645,12 @@ v0_9_1_proved_1_bb8_get:                                # @v0_9_1_proved_1_bb8_g
 	movq	%r12, %rax
 	movq	%rbx, %rsi
 	jmp	.Lv0_9_1_proved_1_BB55_19
-.Lv0_9_1_proved_1_BB55_60:                              # %"bb8_core::internals::decided::want_with_handle::<i64,28'bb8_c::Destruct++none::<i64>{{}}>.exit310.thread.i"
-	pxor	%xmm0, %xmm0
+.Lv0_9_1_proved_1_BB55_60:                              # %"bb8_core::internals::decided::want_with_handle::<i64,28'bb8_c::Destruct++none::<i64>{{}}>.exit306.thread.i"
+	xorps	%xmm0, %xmm0
 .Lv0_9_1_proved_1_BB55_61:                              # %arm.2.i.i471.thread.i
 	movq	(%rcx), %rcx
 .Lv0_9_1_proved_1_BB55_62:                              # %arm.2.i.i471.i.thread
+	incq	464(%r14)
 	movq	%r14, (%rsi)
 	movl	$4, %edx
 	xorl	%ebx, %ebx
@@ -8668,7 +8663,7 @@ v0_9_1_proved_1_bb8_get:                                # @v0_9_1_proved_1_bb8_g
 	movq	%r11, 32(%rax)
 	movq	%rbx, 40(%rax)
 	movq	%rcx, 48(%rax)
-	movq	%xmm0, 56(%rax)
+	movlps	%xmm0, 56(%rax)
 	addq	$40, %rsp
 	popq	%rbx
 	popq	%r12
@@ -8691,8 +8686,8 @@ v0_9_1_proved_1_bb8_get:                                # @v0_9_1_proved_1_bb8_g
 	addq	%rcx, %rax
 	incq	%rax
 	movq	%rax, 544(%r14)
-	pxor	%xmm0, %xmm0
-	movdqu	%xmm0, 552(%r14)
+	xorps	%xmm0, %xmm0
+	movups	%xmm0, 552(%r14)
 	movq	%r12, %rax
 	movq	%r14, (%rbx)
 	movl	$2, %edx
