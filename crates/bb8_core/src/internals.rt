@@ -322,6 +322,7 @@ impl<C: Drop, A> PoolInternals<C, A> {
 
     /// Serves a get with the connection that it holds, as its check was passed. The connection goes to a guard. It may stand at the hint,
     /// the place of its key, which may be stale and changes no answer. Where the get holds none nothing changes. The get is looked for once.
+    #[inline(always)]
     pub fn checked_ok(
         &mut self,
         at: Moment,

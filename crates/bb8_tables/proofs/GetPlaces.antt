@@ -138,6 +138,13 @@ pub turned_stands : (a : Inside) (place : ℕ) (f : Getting → Getting) (mid : 
     (slot_at mid place)
 turned_stands a place f mid good first sets = let x = good.waiting.each 0 place (sym first) in stands_then a.slots mid place f x.0 x.1 sets
 
+-- and is first in line still
+pub turned_first : (a : Inside) (place : ℕ) (f : Getting → Getting) (mid : TableView (Slot Getting)) → AreGoodGets a → Some place ≡ slice_get a.slots.line 0 → Restands a.slots mid place f
+    → slice_get mid.line 0 ≡ Some place
+turned_first a place f mid good first sets =
+    let x = good.waiting.each 0 place (sym first) in
+    ap (λ (t : TableView (Slot Getting)). slice_get t.line 0) (sets x.0 x.1) ∙ sym first
+
 -- the first in line is notified
 module _ (a : Inside) (place number : ℕ) (mid slots : TableView (Slot Getting)) (good : AreGoodGets a) (first : Some place ≡ slice_get a.slots.line 0)
     (number_is : (x : Slot Getting) → slot_at a.slots place ≡ Some x → number ≡ x.number)

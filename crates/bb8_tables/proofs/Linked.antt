@@ -51,6 +51,10 @@ module _ (a : Inside) (good : IsGood a) where
   pub seen_inside : (now : Ordered) (p j : ℕ) → view_of a ≡ now → slice_get now.places j ≡ Some p → p < a.links.entries.len
   seen_inside now p j is e = place_inside p j (ap (λ (xs : List ℕ). slice_get xs j) (sym (shows now is)) ∙ e)
 
+  -- and moves on to another one
+  pub seen_moves : (now : Ordered) (p j : ℕ) → view_of a ≡ now → slice_get now.places j ≡ Some p → af p ≢ p
+  seen_moves now p j is e = (Spelled.member_at af be 0 (spelled a) good.spells p j (ap (λ (xs : List ℕ). slice_get xs j) (sym (shows now is)) ∙ e)).moves
+
   pub next_none : (p next : ℕ) → next ≡ af p → next ≡ 0 → (passed rest : List ℕ) → spelled a ≡ passed ++ p ∷ rest → None ≡ slice_get rest 0
   next_none p next is last passed rest e =
       let s : Spells af be 0 (passed ++ p ∷ rest) = subst (λ (ys : List ℕ). Spells af be 0 ys) e good.spells in

@@ -173,10 +173,23 @@ module _ {C : Type 0} where
 
   module _ (a : Inside C) (strategy : QueueStrategy) (place number : ℕ) (holder : Holder) (out : Place C) (mid slots : TableView (Slot (Standing C)))
       (good : AreGoodRecords a) (first : Some place ≡ slice_get a.slots.line (first_place strategy (length a.slots.line)))
-      (number_is : (x : Slot (Standing C)) → slot_at a.slots place ≡ Some x → number ≡ x.number) (is : out ≡ place_with holder)
-      (sets : Restands a.slots mid place (with_place out)) (gone : slots ≡ record mid { line = machine.without place mid.line }) where
+      (number_is : (x : Slot (Standing C)) → slot_at mid place ≡ Some x → number ≡ x.number) (is : out ≡ place_with holder)
+      (gone : mid ≡ record a.slots { line = machine.without place a.slots.line }) (sets : Restands mid slots place (with_place out)) where
+    -- what stands there stands there after its place has left the line
+    stays : (x : Slot (Standing C)) → slot_at a.slots place ≡ Some x → slot_at mid place ≡ Some x
+    stays x e = ap (λ (t : TableView (Slot (Standing C))). slot_at t place) gone ∙ e
+
     taken : (x : Slot (Standing C)) × (slot_at a.slots place ≡ Some x) × (x.number ≡ number) × (is_idle x.standing.place ≡ true)
-    taken = let x = good.idle.are.each _ place (sym first) in (x.0, x.1, sym (number_is x.0 x.1), x.3)
+    taken = let x = good.idle.are.each _ place (sym first) in (x.0, x.1, sym (number_is x.0 (stays x.0 x.1)), x.3)
+
+    after_both : slots ≡ record a.slots {
+      slots = set a.slots.slots place (Some (record taken.0 { standing = with_place out taken.0.standing }));
+      line = machine.without place a.slots.line;
+    }
+    after_both =
+        let x = taken in
+        sets x.0 (stays x.0 x.1)
+        ∙ ap (λ (t : TableView (Slot (Standing C))). record t { slots = set t.slots place (Some (record x.0 { standing = with_place out x.0.standing })) }) gone
 
     pub take_good : AreGoodRecords (record a { slots = slots })
     take_good =
@@ -184,14 +197,14 @@ module _ {C : Type 0} where
         let was = (idle_is x.0.standing.place x.3).1 in
         let out_now : is_conn out ≡ true = held_conn out holder is in
         let u = set_at a.slots.slots place x.0 (Some (record x.0 { standing = with_place out x.0.standing })) x.1 in
-        rw (gone, sets x.0 x.1) (changed_good true true false false good x.1 u (ap is_conn was) out_now refl (ap is_approval was) (ap not out_now) refl refl good.sizes.peak_holds refl
+        rw after_both (changed_good true true false false good x.1 u (ap is_conn was) out_now refl (ap is_approval was) (ap not out_now) refl refl good.sizes.peak_holds refl
         (table_set good.table x.1 refl u) (left_order good.idle u (held_idle out holder is)) (stays_order good.births u x.1 (ap is_conn was) out_now refl)
         (other_line good.unclaimed x.1 (ap is_unclaimed was) u))
 
     pub take_view : view_of_records (record a { slots = slots }) ≡ machine.after_take (place_with holder) number (view_of_records a)
     take_view =
         let x = taken in
-        rw (gone, sets x.0 x.1, sym is) (same_records _ _ refl
+        rw (after_both, sym is) (same_records _ _ refl
         (set_shown number place good.table x.1 x.2 (machine.standing_at out))
         (set_line number place good.table x.1 x.2 (with_place out x.0.standing) (machine.without place a.slots.line) ∙ line_without number place good.table x.1 x.2 a.slots.line good.idle.are)
         refl refl refl refl)
@@ -203,15 +216,18 @@ module _ {C : Type 0} where
         (number_at a.slots.slots a.slots.line (first_place strategy (length a.slots.line)) (sym first) x.1 ∙ ap (λ (q : ℕ). Some q) x.2)
 
     -- the connection that is taken is the one that is shown of its number
-    pub taken_connection : (conn : C) (was_there : Place C) → ((x : Slot (Standing C)) → slot_at a.slots place ≡ Some x → was_there ≡ x.standing.place) → was_there ≡ Idle conn
+    pub taken_connection : (conn : C) (was_there : Place C) → ((x : Slot (Standing C)) → slot_at mid place ≡ Some x → was_there ≡ x.standing.place) → was_there ≡ Idle conn
         → (birth entered : ℕ) × (get (view_of_records a).places number ≡ Some (record { place = Idle conn; birth = birth; entered = entered }))
     taken_connection conn was_there was is = let x = taken in
-        (x.0.standing.birth, x.0.standing.entered, shown_at a place number x.0 good x.1 x.2 ∙ ap (λ (p : Place C). Some (with_place p x.0.standing)) (sym (was x.0 x.1) ∙ is))
+        (x.0.standing.birth, x.0.standing.entered, shown_at a place number x.0 good x.1 x.2 ∙ ap (λ (p : Place C). Some (with_place p x.0.standing)) (sym (was x.0 (stays x.0 x.1)) ∙ is))
 
-  -- something stands at a place in line after its record has gone elsewhere
-  pub put_stands : (a : Inside C) (i place : ℕ) (f : Standing C → Standing C) (mid : TableView (Slot (Standing C))) → AreGoodRecords a → Some place ≡ slice_get a.slots.line i
-      → Restands a.slots mid place f → IsSome (slot_at mid place)
-  put_stands a i place f mid good first sets = let x = good.idle.are.each i place (sym first) in stands_then a.slots mid place f x.0 x.1 sets
+  -- something stands at a place in line, and after it has left the line
+  pub line_stands : (a : Inside C) (i place : ℕ) → AreGoodRecords a → Some place ≡ slice_get a.slots.line i → IsSome (slot_at a.slots place)
+  line_stands a i place good first = let x = good.idle.are.each i place (sym first) in subst IsSome (sym x.1) refl
+
+  pub left_stands : (a : Inside C) (i place : ℕ) (mid : TableView (Slot (Standing C))) → AreGoodRecords a → Some place ≡ slice_get a.slots.line i
+      → mid ≡ record a.slots { line = machine.without place a.slots.line } → IsSome (slot_at mid place)
+  left_stands a i place mid good first gone = rw gone (line_stands a i place good first)
 
   -- nothing is taken where none is idle
   pub idle_none : (a : Inside C) (strategy : QueueStrategy) → slice_get a.slots.line (first_place strategy (length a.slots.line)) ≡ None → first_of strategy (view_of_records a).idle ≡ None

@@ -1,5 +1,5 @@
 -- How many entries of the tables were lent, and how often a table was searched, since the latest step began.
-use Rattle.std.specs.Prelude.{◌≡◌, ◌≤◌, ℕ, ◌+◌, ◌%◌, ◌^◌, min, refl}
+use Rattle.std.specs.Prelude.{◌≡◌, ◌≤◌, ℕ, ◌+◌, ◌-◌, ◌%◌, ◌^◌, min, refl}
 use Rattle.std.specs.Coded.{Coded, code_by, coded×, coded_ℕ}
 use Rattle.bb8_types.specs.Bounds.{end_of_numbers}
 
@@ -8,6 +8,10 @@ pub record Lent : Type 0 where
   pub past : ℕ
   pub lent : ℕ
   pub searched : ℕ
+
+-- what was counted before, of the sum of all that was counted; both wrap
+abbrev pub lent_before : ℕ → ℕ → ℕ → ℕ
+lent_before total lent searched = (total + ((2 ^ 64 - lent) + (2 ^ 64 - searched))) % 2 ^ 64
 
 -- no step yet
 abbrev pub none_lent : Lent

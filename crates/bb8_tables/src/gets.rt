@@ -215,7 +215,7 @@ impl Gets {
     }
 
     /// Begins a get of the next number that waits at once, since this moment, for which there is room.
-    #[inline]
+    #[inline(always)]
     pub fn bear_waiting(&mut self, now: u64, lendings: &mut Lendings) -> GetKey
         requires room { self.old.alive < self.old.peak }
         requires number { self.old.next < end_of_numbers }
@@ -311,6 +311,7 @@ impl Gets {
     }
 
     /// Notifies the oldest waiter that was not notified.
+    #[inline(always)]
     pub fn notify(&mut self, lendings: &mut Lendings) -> Option<GetKey>
         ensures value { notified_of result ≡ slice_get self.old.waiting 0 }
         ensures state { self.new ≡ machine.after_notice (notified_of result) self.old }
@@ -322,7 +323,7 @@ impl Gets {
             None => None,
             Some(place) => {
                 let number = self.slots.turn(place, GetPlace::Waiting(true), lendings);
-                self.slots.step_out(place);
+                self.slots.leave(place);
                 Some(GetKey { number, place })
             }
         }
@@ -396,7 +397,7 @@ impl Gets {
     }
 
     /// Ends a get that holds a connection, and tells which, and when it first waited. Where it holds none nothing changes. It looks for it once.
-    #[inline]
+    #[inline(always)]
     pub fn finish_holding(
         &mut self,
         g: GetKey,
@@ -440,6 +441,7 @@ impl Gets {
     }
 
     /// How the get stands, if it is alive.
+    #[inline(always)]
     pub fn getting(&self, g: GetKey, lendings: &mut Lendings) -> Option<Getting>
         ensures value { result ≡ map.get self.now.places g.number }
         ensures examined { AddsLent 1 1 lendings.old lendings.new }

@@ -203,6 +203,21 @@ impl Line {
         self.len += 1;
     }
 
+    /// Takes a place out that stands in it.
+    #[inline]
+    pub fn leave(&mut self, place: usize)
+        requires member { (j : ℕ) × (slice_get self.old.places j ≡ Some place) }
+        requires apart { 0 < place }
+        ensures { self.new ≡ record self.old { places = without place self.old.places } }
+    {
+        let _links = &self.links;
+        let at = place as u32;
+        let link = self.links.read(at);
+        self.links.join(link.before, link.after);
+        self.links.join(at, at);
+        self.len -= 1;
+    }
+
     /// Takes a place out, wherever it stands in it, if it does.
     #[inline]
     pub fn unlink(&mut self, place: usize)

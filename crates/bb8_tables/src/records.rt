@@ -218,7 +218,7 @@ impl<C: Drop> Records<C> {
     }
 
     /// Takes out the idle connection that is first, for whoever holds it from now on.
-    #[inline]
+    #[inline(always)]
     pub fn take(
         &mut self,
         strategy: QueueStrategy,
@@ -240,8 +240,8 @@ impl<C: Drop> Records<C> {
         match self.slots.first_by(strategy) {
             None => None,
             Some(place) => {
+                self.slots.leave(place);
                 let (number, was) = self.slots.put(place, place_of(holder), lendings);
-                self.slots.step_out(place);
                 match connection_of(was) {
                     None => None,
                     Some(conn) => Some((Key { number, place }, conn)),

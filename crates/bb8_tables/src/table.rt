@@ -30,6 +30,9 @@ pub struct Slot<S> {
     pub standing: S,
 }
 
+/// How many places are added at most beyond those that are asked for.
+const MOST_AT_ONCE: usize = 64;
+
 /// What a free place holds.
 pub trait Vacant {
     /// Something that is never seen.
@@ -298,7 +301,17 @@ impl<S: Drop> Table<S> {
         self.births.push(place);
     }
 
-    /// Takes a place out of line, wherever it stands in it.
+    /// Takes a place out of line that stands in it.
+    #[inline]
+    pub fn leave(&mut self, place: usize)
+        requires stands { IsSome (slot_at self.old place) }
+        requires member { (j : ℕ) × (slice_get self.old.line j ≡ Some place) }
+        ensures { self.new ≡ record self.old { line = without place self.old.line } }
+    {
+        self.line.leave(place);
+    }
+
+    /// Takes a place out of line, wherever it stands in it, if it does.
     #[inline]
     pub fn step_out(&mut self, place: usize)
         requires { IsSome (slot_at self.old place) }
@@ -326,6 +339,7 @@ impl<S: Drop> Table<S> {
 
 impl<S: Drop + Vacant> Table<S> {
     /// Frees a place, wherever it stands in the orders, and gives back what stood there.
+    #[inline(always)]
     pub fn take_out(&mut self, place: usize) -> Slot<S>
         requires { IsSome (slot_at self.old place) }
         ensures value { (x : Slot S) → slot_at self.old place ≡ Some x → result ≡ x }
@@ -341,7 +355,7 @@ impl<S: Drop + Vacant> Table<S> {
     }
 
     /// Frees a place that is not in line, and gives back what stood there.
-    #[inline]
+    #[inline(always)]
     pub fn release(&mut self, place: usize) -> Slot<S>
         requires stands { IsSome (slot_at self.old place) }
         requires absent { Absent place self.old.line }
@@ -363,6 +377,7 @@ impl<S: Drop + Vacant> Table<S> {
     }
 
     /// Frees a place, and tells which number ended there.
+    #[inline(always)]
     pub fn remove(&mut self, place: usize) -> u64
         requires { IsSome (slot_at self.old place) }
         ensures number { (x : Slot S) → slot_at self.old place ≡ Some x → result ≡ x.number }
@@ -388,6 +403,7 @@ impl<S: Drop + Vacant> Table<S> {
     }
 
     /// Adds a place where nothing stands, which is free but where it is the first one.
+    #[inline(always)]
     fn add_place(&mut self) -> Result<(), AllocError>
         ensures ok { OnOk result (self.new ≡ record self.old {
           slots = self.old.slots ++ None ∷ [];
@@ -411,7 +427,26 @@ impl<S: Drop + Vacant> Table<S> {
         Ok(())
     }
 
-    /// Makes room for so many more in all.
+    /// Adds so many free places. Some of them may stand where memory for all was refused.
+    fn add_places(&mut self, count: usize) -> Result<(), AllocError>
+        ensures room { OnOk result (self.old.free + count ≤ self.new.free) }
+        ensures more { self.old.free ≤ self.new.free }
+        ensures kept { (i : ℕ) → slot_at self.new i ≡ slot_at self.old i }
+        ensures line { self.new.line ≡ self.old.line }
+        ensures births { self.new.births ≡ self.old.births }
+    {
+        self.grow(count.saturating_add(1))?;
+        if self.slots.is_empty() {
+            self.add_place()?;
+        }
+        for _ in 0..count {
+            self.add_place()?;
+        }
+        Ok(())
+    }
+
+    /// Makes room for so many more in all. Where there is none yet, as many places more are added as there are, up to `MOST_AT_ONCE`, so that
+    /// most calls find room; where memory for those is refused, as many as are missing.
     pub fn reserve(&mut self, additional: usize) -> Result<(), AllocError>
         ensures room { OnOk result (additional ≤ self.new.free) }
         ensures more { self.old.free ≤ self.new.free }
@@ -423,14 +458,12 @@ impl<S: Drop + Vacant> Table<S> {
         if missing == 0 {
             return Ok(());
         }
-        self.grow(missing.saturating_add(1))?;
-        if self.slots.is_empty() {
-            self.add_place()?;
+        let spare = self.slots.len().min(MOST_AT_ONCE);
+        if self.add_places(missing.max(spare)).is_ok() {
+            return Ok(());
         }
-        for _ in 0..missing {
-            self.add_place()?;
-        }
-        Ok(())
+        let missing = additional.saturating_sub(self.free.len());
+        self.add_places(missing)
     }
 }
 

@@ -26,6 +26,7 @@ use bb8_types::standing::Holder;
 use std::time::Duration;
 
 /// How many approvals a grant is to make.
+#[inline]
 fn due(config: &Config, handles: u64, taken: u64, asked: u64) -> u64
     ensures { result ≡ grants.due (settings_of config.now) handles taken asked }
 {
@@ -99,6 +100,7 @@ pub(super) fn is_expired(config: &Config, now: u64, birth: u64) -> bool
 }
 
 /// Notifies the oldest waiter that was not notified, where the test passes.
+#[inline]
 pub(super) fn notify_next_if(gets: &mut Gets, test: bool, lendings: &mut Lendings) -> Option<GetKey>
     ensures value { notified_of result ≡ cond test (slice_get gets.old.waiting 0) None }
     ensures state { gets.new ≡ machine.after_notice (notified_of result) gets.old }

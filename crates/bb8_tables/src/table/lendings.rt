@@ -5,24 +5,24 @@ ghost use Rattle.bb8_tables.specs.Lent.{none_lent, begun, lends, searches};
 use std::marker::Model;
 
 /// How many entries of the tables were lent, and how often a table was searched, since the latest step began, and the sum of all that was
-/// counted before. Each beginning adds one to that sum, so that one that tells of one step began its count once, and looked at nothing before.
+/// counted, from which what was counted before is known. Each beginning adds one to that sum, so that one that tells of one step began its count once, and looked at nothing before.
 /// Outside of this file one comes of an `UncountedAccess`, or of another one (`begun`). An entry is lent each time what stands there is read or changed, found by its place, along an order or by
 /// its number; not where it is made or given away, nor where its neighbours are joined. A search is made where a hint is stale.
 #[derive(Drop)]
 pub struct Lendings {
-    past: u64,
+    total: u64,
     lent: u64,
     searched: u64,
 }
 
 impl Model for Lendings {
-    ghost use Rattle.bb8_tables.specs.Lent.{Lent, lent_code};
+    ghost use Rattle.bb8_tables.specs.Lent.{Lent, lent_code, lent_before};
 
     ghost Value = { Lent };
 
     ghost coded = { lent_code };
 
-    ghost view = { λ a. record { past = a.past; lent = a.lent; searched = a.searched } };
+    ghost view = { λ a. record { past = lent_before a.total a.lent a.searched; lent = a.lent; searched = a.searched } };
 }
 
 /// Lets to look on a count of one's own, which is forgotten: that of who asks. The module of tables alone can make one, and does with each
@@ -45,7 +45,7 @@ impl UncountedAccess {
         ensures { result ≡ none_lent }
     {
         Lendings {
-            past: 0,
+            total: 0,
             lent: 0,
             searched: 0,
         }
@@ -66,9 +66,10 @@ impl Lendings {
     pub fn begun(&self) -> Lendings
         ensures { result ≡ begun self.now }
     {
-        let counted = self.past.wrapping_add(self.lent);
+        let _lent = self.lent;
+        let _searched = self.searched;
         Lendings {
-            past: counted.wrapping_add(self.searched).wrapping_add(1),
+            total: self.total.wrapping_add(1),
             lent: 0,
             searched: 0,
         }
@@ -95,7 +96,10 @@ impl Lendings {
     pub(super) fn lend(&mut self)
         ensures { self.new ≡ lends self.old }
     {
-        self.lent = self.lent.saturating_add(1);
+        if self.lent < u64::MAX {
+            self.lent += 1;
+            self.total = self.total.wrapping_add(1);
+        }
     }
 
     /// Counts one search more.
@@ -103,6 +107,9 @@ impl Lendings {
     pub(super) fn search(&mut self)
         ensures { self.new ≡ searches self.old }
     {
-        self.searched = self.searched.saturating_add(1);
+        if self.searched < u64::MAX {
+            self.searched += 1;
+            self.total = self.total.wrapping_add(1);
+        }
     }
 }

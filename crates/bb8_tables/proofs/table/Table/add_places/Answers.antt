@@ -1,6 +1,6 @@
 use Rattle.bb8_tables.proofs.Words.{◌∙◌, None, [], ◌∷◌, arith, length-append}
 use Rattle.bb8_tables.proofs.Tables.{get_or_none}
-use Rattle.bb8_tables.proofs.table.Table.reserve.Goals as goal
+use Rattle.bb8_tables.proofs.table.Table.add_places.Goals as goal
 
 pub loop-preserved : goal.loop-preserved
 loop-preserved g c = rw c.in_ok-add_place-2.ensures.ok (record {

@@ -1,5 +1,5 @@
 use Rattle.std.proofs.Common.{◌≡◌, ℕ, ◌+◌, ◌<◌, None, get_or, length}
-use Rattle.bb8_tables.proofs.table.Table.reserve.Given as goal
+use Rattle.bb8_tables.proofs.table.Table.add_places.Given as goal
 
 abbrev pub invariant-loop : goal.invariant-loop
 invariant-loop g l = record {
