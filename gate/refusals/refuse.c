@@ -1,5 +1,5 @@
 // A heap that refuses, to be loaded before the C library's (LD_PRELOAD). Of the requests for memory that a program makes it refuses the
-// REFUSE_AT-th, and where REFUSE_ALL is set every later one too; the others it hands on. Of a run that makes fewer it says so at its end.
+// REFUSE_AT-th, and where REFUSE_ALL is set every later one too, or with REFUSE_COUNT so many in all; the others it hands on. Of a run that makes fewer it says so at its end.
 // It includes no header, as a kit's compiler has none.
 
 char *getenv(const char *name);
@@ -17,10 +17,16 @@ static unsigned long first_refused(void) {
     return text ? strtoul(text, 0, 10) : 0;
 }
 
+// How many requests are refused: one, if nothing is said.
+static unsigned long count_refused(void) {
+    const char *text = getenv("REFUSE_COUNT");
+    return text ? strtoul(text, 0, 10) : 1;
+}
+
 static int is_refused(void) {
     unsigned long number = __atomic_add_fetch(&requests, 1, __ATOMIC_SEQ_CST);
     unsigned long first = first_refused();
-    return first && (number == first || (number > first && getenv("REFUSE_ALL")));
+    return first && number >= first && (number - first < count_refused() || getenv("REFUSE_ALL"));
 }
 
 void *malloc(unsigned long size) {

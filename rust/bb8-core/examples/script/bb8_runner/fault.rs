@@ -1,0 +1,38 @@
+//! Why a script was not answered.
+
+use bb8_core::api;
+use crate::kit::AllocError;
+use std::fmt;
+
+/// Why nothing, or not all, was written.
+#[derive(Clone, Copy, Debug, PartialEq, Eq)]
+pub enum Fault {
+    /// A read failed.
+    Read,
+    /// A write failed. A beginning of the output may have gone out.
+    Write,
+    /// Memory was refused for the lists.
+    Memory,
+}
+
+impl fmt::Display for Fault {
+    fn fmt(&self, f: &mut fmt::Formatter) -> fmt::Result {
+        match self {
+            Fault::Read => write!(f, "cannot read"),
+            Fault::Write => write!(f, "cannot write"),
+            Fault::Memory => write!(f, "no memory"),
+        }
+    }
+}
+
+impl From<AllocError> for Fault {
+    fn from(_e: AllocError) -> Fault {
+        Fault::Memory
+    }
+}
+
+impl From<api::Memory> for Fault {
+    fn from(_e: api::Memory) -> Fault {
+        Fault::Memory
+    }
+}

@@ -1,0 +1,323 @@
+//! Replays of lists of events, by plain numbers.
+
+mod events;
+mod hints;
+
+use self::hints::Hints;
+use crate::bb8_core::answers::{
+    AddAnswer, BeginAnswer, CheckedErrAnswer, CheckedOkAnswer, ClaimAnswer, FailedAnswer,
+    GiveUpAnswer, JoinAnswer, LeaveAnswer, OpenedAnswer, PutBackAnswer, ReapAnswer, TryAnswer,
+    Unfit,
+};
+use crate::bb8_core::internals::PoolInternals;
+use crate::bb8_tables::keys::{GetKey, Key};
+use crate::bb8_types::api::{Config, Memory, Moment};
+use crate::bb8_types::grants::Grant;
+pub use crate::bb8_types::reasons::Reason;
+pub use events::{Act, Answer, Event};
+use crate::kit::Vec;
+use crate::kit::Global;
+
+/// The number of the get that a step notified.
+fn number_of(notified: Option<GetKey>) -> Option<u64> {
+    match notified {
+        None => None,
+        Some(get) => Some(get.number),
+    }
+}
+
+/// Where the records and the gets of a replay stood last. It spares searches, and changes no answer.
+pub struct Known {
+    records: Hints,
+    gets: Hints,
+}
+
+impl Known {
+    /// Nothing is known yet, of a pool whose connections and approvals have numbers from `first_number` on, and its gets from `first_get`
+    /// on. It takes no memory.
+    pub fn new(alloc: Global, first_number: u64, first_get: u64) -> Self {
+        Known {
+            records: Hints::new(alloc, first_number),
+            gets: Hints::new(alloc, first_get),
+        }
+    }
+
+    /// Where the record or the get stands that an event names, as far as it is known.
+    fn place(&self, act: Act) -> usize {
+        match act {
+            Act::Try(get) | Act::CheckedOk(get) => self.gets.place(get),
+            Act::CheckedErr(get, _) | Act::GiveUp(get, _, _) => self.gets.place(get),
+            Act::PutBack(number, _) | Act::Opened(number) | Act::Failed(number) => {
+                self.records.place(number)
+            }
+            Act::Begin | Act::Fill(_) | Act::Claim | Act::Add(_) => 0,
+            Act::Reap | Act::State | Act::Join | Act::Leave | Act::Look => 0,
+        }
+    }
+
+    /// Where the connection stands that a get holds, as far as it is known.
+    fn hint(&self, held: Option<u64>) -> usize {
+        match held {
+            None => 0,
+            Some(number) => self.records.place(number),
+        }
+    }
+}
+
+/// Whether the event fits the state. A connection that it hands in does not matter.
+pub fn fits<C>(pool: &PoolInternals<C>, event: Event) -> bool {
+    fits_act(pool, event.act)
+}
+
+/// As `fits`, by the event alone.
+fn fits_act<C>(pool: &PoolInternals<C>, act: Act) -> bool {
+    let place = 0;
+    match act {
+        Act::Begin | Act::Add(_) => pool.fits_begin(),
+        Act::Try(number) => pool.fits_try(GetKey { number, place }),
+        Act::CheckedOk(number) | Act::CheckedErr(number, _) => {
+            pool.fits_checked_ok(GetKey { number, place })
+        }
+        Act::GiveUp(number, _, _) => pool.is_alive(GetKey { number, place }),
+        Act::PutBack(number, _) => pool.is_guarded(Key { number, place }),
+        Act::Opened(number) | Act::Failed(number) => pool.is_claimed(Key { number, place }),
+        Act::Join => pool.fits_join(),
+        Act::Leave => pool.fits_leave(),
+        Act::Fill(_) | Act::Claim | Act::Reap | Act::State | Act::Look => true,
+    }
+}
+
+fn begin(pool: &mut PoolInternals<u64>, known: &mut Known, at: Moment) -> Answer {
+    match pool.begin(at) {
+        Ok(BeginAnswer::Begun(get)) => {
+            known.gets.note(get.number, get.place);
+            Answer::Begun(get.number)
+        }
+        Ok(BeginAnswer::Memory) => Answer::Memory,
+        Ok(BeginAnswer::Exhausted) => Answer::Exhausted,
+        Err(Unfit) => Answer::Unfit,
+    }
+}
+
+fn try_get(pool: &mut PoolInternals<u64>, known: &mut Known, at: Moment, get: GetKey) -> Answer {
+    match pool.try_get(at, get) {
+        Ok(TryAnswer::Served(key, _, grant)) => {
+            known.records.note(key.number, key.place);
+            Answer::Served(key.number, grant)
+        }
+        Ok(TryAnswer::Taken(key, _, grant)) => {
+            known.records.note(key.number, key.place);
+            Answer::Taken(key.number, grant)
+        }
+        Ok(TryAnswer::Waiting(grant)) => Answer::Waiting(grant),
+        Err(Unfit) => Answer::Unfit,
+    }
+}
+
+fn checked_ok(pool: &mut PoolInternals<u64>, known: &Known, at: Moment, get: GetKey) -> Answer {
+    let hint = known.hint(pool.held(get));
+    let grant = Grant {
+        first: pool.next_number(),
+        count: 0,
+        withheld: 0,
+    };
+    match pool.checked_ok(at, get, hint) {
+        Ok(CheckedOkAnswer::Served(key)) => Answer::Served(key.number, grant),
+        Err(Unfit) => Answer::Unfit,
+    }
+}
+
+fn checked_err(
+    pool: &mut PoolInternals<u64>,
+    known: &Known,
+    at: Moment,
+    get: GetKey,
+    broken: bool,
+) -> Answer {
+    let held = pool.held(get);
+    match pool.checked_err(at, get, held.unwrap_or(0), broken, known.hint(held)) {
+        Ok(CheckedErrAnswer::Closed(key, _, grant, notified)) => {
+            Answer::Closed(key.number, grant, number_of(notified))
+        }
+        Err(_) => Answer::Unfit,
+    }
+}
+
+fn gave_up<U>(answer: Result<GiveUpAnswer<u64>, U>) -> Answer {
+    match answer {
+        Ok(GiveUpAnswer::GaveUp(notified)) => Answer::GaveUp(number_of(notified)),
+        Ok(GiveUpAnswer::Kept(key, notified)) => Answer::Kept(key.number, number_of(notified)),
+        Ok(GiveUpAnswer::Closed(key, _, grant, notified)) => {
+            Answer::Closed(key.number, grant, number_of(notified))
+        }
+        Err(_) => Answer::Unfit,
+    }
+}
+
+/// The connection that the get holds, which is its number, is handed in.
+fn give_up(
+    pool: &mut PoolInternals<u64>,
+    known: &Known,
+    at: Moment,
+    get: GetKey,
+    reason: Reason,
+    broken: bool,
+) -> Answer {
+    match pool.held(get) {
+        None => gave_up(pool.give_up(at, get, reason, broken)),
+        Some(held) => {
+            let hint = known.records.place(held);
+            gave_up(pool.give_back(at, get, reason, held, broken, hint))
+        }
+    }
+}
+
+fn put_back(pool: &mut PoolInternals<u64>, at: Moment, key: Key, broken: bool) -> Answer {
+    match pool.put_back(at, key, key.number, broken) {
+        Ok(PutBackAnswer::Kept(notified)) => Answer::Kept(key.number, number_of(notified)),
+        Ok(PutBackAnswer::Closed(_, grant, notified)) => {
+            Answer::Closed(key.number, grant, number_of(notified))
+        }
+        Err(_) => Answer::Unfit,
+    }
+}
+
+fn claim(pool: &mut PoolInternals<u64>, known: &mut Known, at: Moment) -> Answer {
+    match pool.claim(at) {
+        ClaimAnswer::Claimed(Some(key)) => {
+            known.records.note(key.number, key.place);
+            Answer::Claimed(Some(key.number))
+        }
+        ClaimAnswer::Claimed(None) => Answer::Claimed(None),
+        ClaimAnswer::Ended => Answer::Ended,
+    }
+}
+
+fn opened(pool: &mut PoolInternals<u64>, at: Moment, key: Key) -> Answer {
+    match pool.opened(at, key, key.number) {
+        Ok(OpenedAnswer::Entered(notified)) => Answer::Entered(key.number, number_of(notified)),
+        Ok(OpenedAnswer::Late(_)) => Answer::Late(key.number),
+        Err(_) => Answer::Unfit,
+    }
+}
+
+fn failed(pool: &mut PoolInternals<u64>, at: Moment, key: Key) -> Answer {
+    match pool.failed(at, key) {
+        Ok(FailedAnswer::GivenBack) => Answer::GivenBack,
+        Err(Unfit) => Answer::Unfit,
+    }
+}
+
+fn add(pool: &mut PoolInternals<u64>, known: &mut Known, at: Moment, broken: bool) -> Answer {
+    let number = pool.next_number();
+    match pool.add(at, number, broken) {
+        Ok(AddAnswer::Added(key, notified)) => {
+            known.records.note(key.number, key.place);
+            Answer::Added(key.number, number_of(notified))
+        }
+        Ok(AddAnswer::Broken(_)) => Answer::Broken,
+        Ok(AddAnswer::NoCapacity(_)) => Answer::NoCapacity,
+        Ok(AddAnswer::Withheld(_)) => Answer::Withheld,
+        Err(_) => Answer::Unfit,
+    }
+}
+
+fn reap(pool: &mut PoolInternals<u64>, at: Moment) -> Answer {
+    match pool.reap(at) {
+        ReapAnswer::Reaped {
+            closed,
+            by_idle,
+            by_life,
+            grant,
+        } => Answer::Reaped {
+            closed,
+            by_idle,
+            by_life,
+            grant,
+        },
+        ReapAnswer::Ended => Answer::Ended,
+    }
+}
+
+fn join(pool: &mut PoolInternals<u64>, at: Moment) -> Answer {
+    match pool.join(at) {
+        Ok(JoinAnswer::Joined) => Answer::Joined,
+        Ok(JoinAnswer::Exhausted) => Answer::Exhausted,
+        Err(Unfit) => Answer::Unfit,
+    }
+}
+
+fn leave(pool: &mut PoolInternals<u64>, at: Moment) -> Answer {
+    match pool.leave(at) {
+        Ok(LeaveAnswer::Left(closed)) => Answer::Left(closed),
+        Err(Unfit) => Answer::Unfit,
+    }
+}
+
+fn look(pool: &mut PoolInternals<u64>, at: Moment) -> Answer {
+    let seen = pool.look(at);
+    Answer::Looked(seen.moment, seen.alive)
+}
+
+/// What an event is answered: `Unfit` where it does not fit, and then nothing changes. The connection of a record is its number; that of
+/// an `Add` is the next number.
+pub fn apply(pool: &mut PoolInternals<u64>, known: &mut Known, event: Event) -> Answer {
+    let place = known.place(event.act);
+    match event.act {
+        Act::Begin => begin(pool, known, event.at),
+        Act::Try(number) => try_get(pool, known, event.at, GetKey { number, place }),
+        Act::CheckedOk(number) => checked_ok(pool, known, event.at, GetKey { number, place }),
+        Act::CheckedErr(number, broken) => {
+            checked_err(pool, known, event.at, GetKey { number, place }, broken)
+        }
+        Act::GiveUp(number, reason, broken) => {
+            give_up(
+                pool,
+                known,
+                event.at,
+                GetKey { number, place },
+                reason,
+                broken,
+            )
+        }
+        Act::PutBack(number, broken) => put_back(pool, event.at, Key { number, place }, broken),
+        Act::Fill(claimed) => Answer::Granted(pool.fill(event.at, claimed)),
+        Act::Claim => claim(pool, known, event.at),
+        Act::Opened(number) => opened(pool, event.at, Key { number, place }),
+        Act::Failed(number) => failed(pool, event.at, Key { number, place }),
+        Act::Add(broken) => add(pool, known, event.at, broken),
+        Act::Reap => reap(pool, event.at),
+        Act::State => Answer::Shown(pool.state(event.at)),
+        Act::Join => join(pool, event.at),
+        Act::Leave => leave(pool, event.at),
+        Act::Look => look(pool, event.at),
+    }
+}
+
+/// What the events are answered, one answer each, from the empty state on, and the state that they leave. An event that does not fit
+/// answers `Unfit` and changes nothing. `Memory` comes only where the list of answers could not grow: want of memory inside a step is
+/// that step's answer.
+pub fn replay(
+    alloc: Global,
+    config: Config,
+    events: &[Event],
+) -> Result<(Vec<Answer>, PoolInternals<u64>), Memory> {
+    replay_from(alloc, config, 0, 0, events)
+}
+
+/// As `replay`, with the first number of connections and approvals, and that of gets.
+pub fn replay_from(
+    alloc: Global,
+    config: Config,
+    first_number: u64,
+    first_get: u64,
+    events: &[Event],
+) -> Result<(Vec<Answer>, PoolInternals<u64>), Memory> {
+    let mut pool = PoolInternals::starting_at(alloc, config, first_number, first_get);
+    let mut known = Known::new(alloc, first_number, first_get);
+    let mut answers = Vec::new(alloc);
+    for event in events {
+        answers.push(apply(&mut pool, &mut known, *event))?;
+    }
+    Ok((answers, pool))
+}

@@ -1,0 +1,115 @@
+//! The counters behind a pool's statistics.
+
+use crate::bb8_types::api::Statistics;
+use crate::bb8_types::reasons::Reason;
+use std::time::Duration;
+
+/// How often each thing happened; the wait time in whole microseconds.
+#[derive(Clone, Copy)]
+pub struct Counters {
+    /// Gets that began.
+    pub started: u64,
+    /// Gets that were served without waiting.
+    pub direct: u64,
+    /// Gets that were served after waiting.
+    pub waited: u64,
+    /// Gets that timed out.
+    pub timed_out: u64,
+    /// Gets that were let go.
+    pub cancelled: u64,
+    /// The time that served and timed out gets waited, in microseconds.
+    pub wait_micros: u64,
+    /// Connections that an approval brought.
+    pub created: u64,
+    /// Connections that were closed as broken.
+    pub broken: u64,
+    /// Connections that were closed after a failed check.
+    pub invalid: u64,
+    /// Connections that were closed as they had lived too long.
+    pub max_lifetime: u64,
+    /// Connections that were closed as they had been idle too long.
+    pub idle_timeout: u64,
+}
+
+/// The whole microseconds since a get first waited, if it waited.
+fn micros_since(now: u64, first_wait: Option<u64>) -> u64 {
+    match first_wait {
+        None => 0,
+        Some(first) => now.saturating_sub(first) / 1000,
+    }
+}
+
+impl Counters {
+    /// Nothing happened yet.
+    pub const NONE: Self = Counters {
+        started: 0,
+        direct: 0,
+        waited: 0,
+        timed_out: 0,
+        cancelled: 0,
+        wait_micros: 0,
+        created: 0,
+        broken: 0,
+        invalid: 0,
+        max_lifetime: 0,
+        idle_timeout: 0,
+    };
+
+    /// A get was served that first waited then, if it waited.
+    pub fn serve(&mut self, first_wait: Option<u64>, now: u64) {
+        match first_wait {
+            None => self.direct += 1,
+            Some(_) => {
+                self.waited += 1;
+                self.wait_micros = self
+                    .wait_micros
+                    .saturating_add(micros_since(now, first_wait));
+            }
+        }
+    }
+
+    /// A get was given up that first waited then, if it waited. How long it waited counts only where it timed out.
+    pub fn give_up(&mut self, reason: Reason, first_wait: Option<u64>, now: u64) {
+        match reason {
+            Reason::TimedOut => {
+                self.timed_out += 1;
+                self.wait_micros = self
+                    .wait_micros
+                    .saturating_add(micros_since(now, first_wait));
+            }
+            Reason::Cancelled => self.cancelled += 1,
+        }
+    }
+
+    /// A connection was closed as it came back: it was broken, or else it had lived too long, or neither.
+    pub fn close(&mut self, broken: bool, expired: bool) {
+        if broken {
+            self.broken += 1;
+        } else if expired {
+            self.max_lifetime += 1;
+        }
+    }
+
+    /// Connections were closed, so many as they had been idle too long, and so many others as they had lived too long.
+    pub fn reap(&mut self, by_idle: u32, by_life: u32) {
+        self.max_lifetime += by_life as u64;
+        self.idle_timeout += by_idle as u64;
+    }
+
+    /// The statistics that a user sees.
+    pub fn statistics(&self) -> Statistics {
+        Statistics {
+            get_started: self.started,
+            get_direct: self.direct,
+            get_waited: self.waited,
+            get_timed_out: self.timed_out,
+            get_cancelled: self.cancelled,
+            get_wait_time: Duration::from_micros(self.wait_micros),
+            connections_created: self.created,
+            connections_closed_broken: self.broken,
+            connections_closed_invalid: self.invalid,
+            connections_closed_max_lifetime: self.max_lifetime,
+            connections_closed_idle_timeout: self.idle_timeout,
+        }
+    }
+}

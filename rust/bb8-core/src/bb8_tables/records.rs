@@ -1,0 +1,465 @@
+//! The connections and approvals of a pool.
+
+mod reaps;
+
+use crate::bb8_tables::closed::{Closed, ClosedList};
+use crate::bb8_tables::keys::Key;
+use crate::bb8_tables::ring::Ring;
+use crate::bb8_tables::table::{Lendings, Slot, Table, UncountedAccess};
+use crate::bb8_types::api::QueueStrategy;
+use crate::bb8_types::bounds::END_OF_NUMBERS;
+use crate::bb8_types::grants::Grant;
+use crate::bb8_types::standing::{Holder, Place, Standing};
+pub use reaps::Reaped;
+use crate::kit::{AllocError, Global};
+
+/// The table of connections and approvals, with the line of unclaimed approvals and its counters. In the table's line are the idle
+/// connections, by their last entry; in its order of births all connections, idle or out.
+pub struct Records<C> {
+    next: u64,
+    slots: Table<Standing<C>>,
+    unclaimed: Ring<Key>,
+    conns: u64,
+    approved: u64,
+    peak: u64,
+}
+
+fn is_claimed<C>(place: &Place<C>) -> bool {
+    match place {
+        Place::Claimed => true,
+        Place::Unclaimed | Place::Idle(_) | Place::Held(_) | Place::Guarded => false,
+    }
+}
+
+fn is_guarded<C>(place: &Place<C>) -> bool {
+    match place {
+        Place::Guarded => true,
+        Place::Unclaimed | Place::Claimed | Place::Idle(_) | Place::Held(_) => false,
+    }
+}
+
+/// Whether a connection is out with this holder.
+fn is_with<C>(place: &Place<C>, holder: Holder) -> bool {
+    match holder {
+        Holder::Guard => is_guarded(place),
+        Holder::Get(get) => match place {
+            Place::Held(number) => get == *number,
+            Place::Unclaimed | Place::Claimed | Place::Idle(_) | Place::Guarded => false,
+        },
+    }
+}
+
+/// The connection of an idle place.
+fn connection_of<C>(place: Place<C>) -> Option<C> {
+    match place {
+        Place::Idle(conn) => Some(conn),
+        Place::Unclaimed | Place::Claimed | Place::Held(_) | Place::Guarded => None,
+    }
+}
+
+/// Frees the place of an idle connection, which is offered to a list, and tells its number.
+fn close_idle_at<C>(
+    slots: &mut Table<Standing<C>>,
+    place: usize,
+    closed: &mut ClosedList<C>,
+) -> u64 {
+    let Slot { number, standing } = slots.take_out(place);
+    if let Place::Idle(conn) = standing.place {
+        closed.offer(Closed { number, conn });
+    }
+    number
+}
+
+/// Whether a connection that comes back is closed.
+fn is_closing(broken: bool, expired: bool, ended: bool) -> bool {
+    broken || expired || ended
+}
+
+/// Where a connection stands that somebody holds.
+fn place_of<C>(holder: Holder) -> Place<C> {
+    match holder {
+        Holder::Guard => Place::Guarded,
+        Holder::Get(number) => Place::Held(number),
+    }
+}
+
+/// A new approval, claimed or not.
+fn approval<C>(claimed: bool) -> Standing<C> {
+    let place = if claimed {
+        Place::Claimed
+    } else {
+        Place::Unclaimed
+    };
+    Standing {
+        place,
+        birth: 0,
+        entered: 0,
+    }
+}
+
+/// Puts a new approval in line, where it is not claimed already.
+fn push_unclaimed(unclaimed: &mut Ring<Key>, claimed: bool, key: Key) {
+    if !claimed {
+        unclaimed.push(key);
+    }
+}
+
+/// One, where the test passes.
+pub fn one(test: bool) -> u64 {
+    if test { 1 } else { 0 }
+}
+
+impl<C> Records<C> {
+    /// No records, which take no memory, and the leave to ask.
+    pub fn new(alloc: Global, first: u64) -> (Self, UncountedAccess) {
+        let (slots, asking) = Table::new(alloc);
+        let records = Records {
+            next: first,
+            slots,
+            unclaimed: Ring::new(alloc),
+            conns: 0,
+            approved: 0,
+            peak: 0,
+        };
+        (records, asking)
+    }
+
+    /// A list with no room, which takes no memory.
+    pub fn no_list(&self) -> ClosedList<C> {
+        self.unclaimed.another()
+    }
+
+    /// Claims the unclaimed approval of the least number.
+    pub fn claim(&mut self, lendings: &mut Lendings) -> Option<Key> {
+        match self.unclaimed.pop() {
+            None => None,
+            Some(key) => {
+                let _ = self.slots.put(key.place, Place::Claimed, lendings);
+                Some(key)
+            }
+        }
+    }
+
+    /// Takes out the idle connection that is first, for whoever holds it from now on.
+    #[inline(always)]
+    pub fn take(
+        &mut self,
+        strategy: QueueStrategy,
+        holder: Holder,
+        lendings: &mut Lendings,
+    ) -> Option<(Key, C)> {
+        match self.slots.first_by(strategy) {
+            None => None,
+            Some(place) => {
+                self.slots.leave(place);
+                let (number, was) = self.slots.put(place, place_of(holder), lendings);
+                match connection_of(was) {
+                    None => None,
+                    Some(conn) => Some((Key { number, place }, conn)),
+                }
+            }
+        }
+    }
+
+    /// Has a guard take over a connection that is out, and tells where it stands.
+    pub fn hand_over(&mut self, k: Key, lendings: &mut Lendings) -> Key {
+        match self.slots.locate(k.number, k.place, lendings) {
+            None => k,
+            Some(place) => {
+                let _ = self.slots.put(place, Place::Guarded, lendings);
+                Key {
+                    number: k.number,
+                    place,
+                }
+            }
+        }
+    }
+
+    /// Makes a connection idle that a claimed approval brought, and that is born now. Where the number is no claimed approval the connection
+    /// comes back, and nothing changes. No birth and no entry may lie after `now`. It looks for the approval once.
+    pub fn enter(&mut self, k: Key, conn: C, now: u64, lendings: &mut Lendings) -> Result<(), C> {
+        match self.slots.locate(k.number, k.place, lendings) {
+            None => Err(conn),
+            Some(place) => {
+                if !is_claimed(&self.slots.at(place, lendings).standing.place) {
+                    return Err(conn);
+                }
+                let idle = Standing {
+                    place: Place::Idle(conn),
+                    birth: now,
+                    entered: now,
+                };
+                let _ = self.slots.replace(place, idle, lendings);
+                self.slots.line_up(place);
+                self.slots.add_birth(place);
+                self.conns += 1;
+                self.approved -= 1;
+                Ok(())
+            }
+        }
+    }
+
+    /// Takes back a connection that somebody holds, which is idle again and keeps its birth. Where it is broken, or older than `greatest_age`, or
+    /// the pool has ended, it is handed back instead, with whether it is older than that, and nothing changes. Where the holder does not have
+    /// it, it comes back, and nothing changes. No birth and no entry may lie after `now`. It looks for the connection once.
+    #[inline(always)]
+    pub fn put_back(
+        &mut self,
+        k: Key,
+        conn: C,
+        holder: Holder,
+        broken: bool,
+        ended: bool,
+        greatest_age: u64,
+        now: u64,
+        lendings: &mut Lendings,
+    ) -> Result<Result<(), (C, bool)>, C> {
+        match self.slots.locate(k.number, k.place, lendings) {
+            None => Err(conn),
+            Some(place) => {
+                let standing = &self.slots.at(place, lendings).standing;
+                if !is_with(&standing.place, holder) {
+                    return Err(conn);
+                }
+                let birth = standing.birth;
+                let older = greatest_age < now - birth;
+                if is_closing(broken, older, ended) {
+                    return Ok(Err((conn, older)));
+                }
+                let idle = Standing {
+                    place: Place::Idle(conn),
+                    birth,
+                    entered: now,
+                };
+                let _ = self.slots.replace(place, idle, lendings);
+                self.slots.line_up(place);
+                Ok(Ok(()))
+            }
+        }
+    }
+
+    /// Ends a claimed approval, and tells whether the number is one. Where it is none nothing changes. It looks for it once.
+    pub fn end_claimed(&mut self, k: Key, lendings: &mut Lendings) -> bool {
+        match self.slots.locate(k.number, k.place, lendings) {
+            None => false,
+            Some(at) => {
+                if !is_claimed(&self.slots.at(at, lendings).standing.place) {
+                    return false;
+                }
+                let _ = self.slots.remove(at);
+                self.approved -= 1;
+                true
+            }
+        }
+    }
+
+    /// Ends a connection that a guard or a get held.
+    pub fn close(&mut self, k: Key, lendings: &mut Lendings) {
+        match self.slots.locate(k.number, k.place, lendings) {
+            None => {}
+            Some(place) => {
+                let _ = self.slots.remove(place);
+                self.conns -= 1;
+            }
+        }
+    }
+
+    /// Ends the idle connection that entered first, and offers it to a list.
+    fn end_idle(&mut self, closed: &mut ClosedList<C>) -> Option<Key> {
+        match self.slots.first() {
+            None => None,
+            Some(place) => {
+                let number = close_idle_at(&mut self.slots, place, closed);
+                self.conns -= 1;
+                Some(Key { number, place })
+            }
+        }
+    }
+
+    /// Ends the unclaimed approval of the least number.
+    fn end_unclaimed(&mut self) -> Option<Key> {
+        match self.unclaimed.pop() {
+            None => None,
+            Some(key) => {
+                let _ = self.slots.remove(key.place);
+                self.approved -= 1;
+                Some(key)
+            }
+        }
+    }
+
+    /// Ends all idle connections, offers them to a list, and tells how many they were.
+    fn end_idles(&mut self, closed: &mut ClosedList<C>) -> u32 {
+        let many = self.idle_connections();
+        for _ in 0..many {
+            let _ = self.end_idle(closed);
+        }
+        many
+    }
+
+    /// Ends all unclaimed approvals.
+    fn end_unclaimeds(&mut self) {
+        for _ in 0..self.unclaimed.len() {
+            let _ = self.end_unclaimed();
+        }
+    }
+
+    /// Ends all that nobody holds or claimed: the idle connections, which are counted and offered to a list, and the unclaimed approvals.
+    pub fn leave(&mut self, closed: &mut ClosedList<C>) -> u32 {
+        let many = self.end_idles(closed);
+        self.end_unclaimeds();
+        many
+    }
+
+    /// Makes room for a higher peak.
+    fn make_room(&mut self, peak: u64) -> Result<(), AllocError> {
+        let free = peak - (self.conns + self.approved);
+        self.slots.reserve(free as usize)?;
+        self.unclaimed.grow(peak as usize)?;
+        self.peak = peak;
+        Ok(())
+    }
+
+    /// Makes room for one more record, where there is none yet.
+    fn make_room_for_one(&mut self) -> bool {
+        let used = self.used();
+        used < self.peak || self.make_room(used + 1).is_ok()
+    }
+
+    /// Makes an idle connection of the next number, for which there is room.
+    fn bear(&mut self, conn: C, now: u64) -> Key {
+        let number = self.next;
+        let place = self.slots.insert(Slot {
+            number,
+            standing: Standing {
+                place: Place::Idle(conn),
+                birth: now,
+                entered: now,
+            },
+        });
+        self.slots.line_up(place);
+        self.slots.add_birth(place);
+        self.next += 1;
+        self.conns += 1;
+        Key { number, place }
+    }
+
+    /// Adds an idle connection that was born now. Memory is asked for only where there are as many records as ever were. No birth and no
+    /// entry may lie after `now`.
+    pub fn add(&mut self, conn: C, now: u64) -> Result<Key, C> {
+        if !self.make_room_for_one() {
+            return Err(conn);
+        }
+        Ok(self.bear(conn, now))
+    }
+
+    /// Whether a number is left.
+    pub fn has_number(&self) -> bool {
+        self.next < END_OF_NUMBERS
+    }
+
+    /// The next number.
+    pub fn next_number(&self) -> u64 {
+        self.next
+    }
+
+    /// Makes one approval, for which there is room.
+    fn approve(&mut self, claimed: bool) {
+        let number = self.next;
+        let place = self.slots.insert(Slot {
+            number,
+            standing: approval(claimed),
+        });
+        push_unclaimed(&mut self.unclaimed, claimed, Key { number, place });
+        self.next += 1;
+        self.approved += 1;
+    }
+
+    /// Grants the approvals that are due, as far as there is room and memory. All room is made before the first one.
+    #[cold]
+    fn grant_some(&mut self, due: u64, claimed: bool) -> Grant {
+        let taken = self.conns + self.approved;
+        let possible = due.min(END_OF_NUMBERS - self.next);
+        let below = possible.min(self.peak - taken);
+        let first = self.next;
+        let count = if below < possible && self.make_room(taken + possible).is_ok() {
+            possible
+        } else {
+            below
+        };
+        for _ in 0..count {
+            self.approve(claimed);
+        }
+        Grant {
+            first,
+            count: count as u32,
+            withheld: (due - count) as u32,
+        }
+    }
+
+    /// As `grant_some`. Most often nothing is due, and that is told without a call.
+    #[inline]
+    pub fn grant(&mut self, due: u64, claimed: bool) -> Grant {
+        if due > 0 {
+            return self.grant_some(due, claimed);
+        }
+        Grant::of_nothing(self.next)
+    }
+
+    /// How many open approvals there are.
+    pub fn approved(&self) -> u64 {
+        self.approved
+    }
+
+    /// How many connections and open approvals there are.
+    pub fn used(&self) -> u64 {
+        self.conns + self.approved
+    }
+
+    /// How many idle connections and open approvals there are.
+    pub fn ready(&self) -> u64 {
+        self.slots.len() as u64 + self.approved
+    }
+
+    /// How many connections there are.
+    pub fn connections(&self) -> u32 {
+        self.conns as u32
+    }
+
+    /// How many idle connections there are.
+    pub fn idle_connections(&self) -> u32 {
+        self.slots.len() as u32
+    }
+
+    /// The birth of the record.
+    pub fn birth(&self, k: Key, lendings: &mut Lendings) -> u64 {
+        match self.slots.slot(k.number, k.place, lendings) {
+            None => 0,
+            Some(slot) => slot.standing.birth,
+        }
+    }
+
+    /// Where the number stands, if it does.
+    pub fn find(&self, number: u64, lendings: &mut Lendings) -> Option<Key> {
+        match self.slots.locate(number, 0, lendings) {
+            None => None,
+            Some(place) => Some(Key { number, place }),
+        }
+    }
+
+    /// Whether the number is a claimed approval.
+    pub fn is_claimed(&self, k: Key, lendings: &mut Lendings) -> bool {
+        match self.slots.slot(k.number, k.place, lendings) {
+            None => false,
+            Some(slot) => is_claimed(&slot.standing.place),
+        }
+    }
+
+    /// Whether the number is a connection that a guard holds.
+    pub fn is_guarded(&self, k: Key, lendings: &mut Lendings) -> bool {
+        match self.slots.slot(k.number, k.place, lendings) {
+            None => false,
+            Some(slot) => is_guarded(&slot.standing.place),
+        }
+    }
+}
