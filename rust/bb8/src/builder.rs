@@ -6,30 +6,34 @@ use crate::pool::PoolInner;
 use std::marker::PhantomData;
 use std::time::Duration;
 
-/// The settings of a pool, as [`Pool::config`] tells them.
+/// The settings of a pool, as [`Pool::config`] returns them.
 #[derive(Clone, Debug)]
 #[non_exhaustive]
 pub struct Config {
-    /// The most connections and openings under way, together.
+    /// The maximum of connections and connection attempts, together.
     pub max_size: u32,
-    /// How many idle connections the pool tries to have.
+    /// How many idle connections the pool tries to keep.
     pub min_idle: Option<u32>,
-    /// Whether a connection is checked before it is lent.
+    /// Whether a connection is checked before it is checked out.
     pub test_on_check_out: bool,
-    /// At which age a connection is closed.
+    /// The age at which a connection is closed.
     pub max_lifetime: Option<Duration>,
-    /// After how long an idle connection is closed, where more than `min_idle` are idle.
+    /// After how long an idle connection is closed, if more than `min_idle` are idle.
     pub idle_timeout: Option<Duration>,
-    /// How long a get may take, and how long an opening that fails is tried again.
+    /// How long a get may take, and for how long a failed connection attempt is retried.
     pub connection_timeout: Duration,
-    /// Whether an opening that failed is tried again.
+    /// Whether a failed connection attempt is retried.
     pub retry_connection: bool,
-    /// How often the pool looks for connections that are too old, or idle too long.
+    /// How often the pool closes connections that are too old, or idle for too long.
     pub reaper_rate: Duration,
-    /// Which idle connection is lent first.
+    /// Which idle connection is checked out first.
     pub queue_strategy: QueueStrategy,
-    /// After which wait a get is handed its connection.
+    /// After which wait a get is handed its connection directly.
     pub fair_after: Option<Duration>,
+    /// How long one attempt to open a connection may take; as `connection_timeout` if `None`.
+    pub connect_timeout: Option<Duration>,
+    /// How long a check may take.
+    pub test_timeout: Option<Duration>,
 }
 
 impl<M: ManageConnection> From<&Builder<M>> for Config {
@@ -45,21 +49,23 @@ impl<M: ManageConnection> From<&Builder<M>> for Config {
             reaper_rate: builder.reaper_rate,
             queue_strategy: builder.queue_strategy,
             fair_after: builder.fair_after,
+            connect_timeout: builder.connect_timeout,
+            test_timeout: builder.test_timeout,
         }
     }
 }
 
-/// Which idle connection is lent first.
+/// Which idle connection is checked out first.
 #[derive(Debug, Default, Clone, Copy, PartialEq, Eq)]
 pub enum QueueStrategy {
-    /// The one that is idle longest: the use is spread over all.
+    /// The one that has been idle longest: all are used evenly.
     #[default]
     Fifo,
-    /// The one that became idle last: the others may stay idle until their timeout.
+    /// The one that became idle last: the others may reach their idle timeout.
     Lifo,
 }
 
-/// Makes a pool of settings and a manager.
+/// Builds a pool from settings and a manager.
 #[derive(Debug)]
 pub struct Builder<M: ManageConnection> {
     pub(crate) max_size: u32,
@@ -68,12 +74,17 @@ pub struct Builder<M: ManageConnection> {
     pub(crate) max_lifetime: Option<Duration>,
     pub(crate) idle_timeout: Option<Duration>,
     pub(crate) connection_timeout: Duration,
+    pub(crate) connect_timeout: Option<Duration>,
+    pub(crate) test_timeout: Option<Duration>,
     pub(crate) retry_connection: bool,
     pub(crate) error_sink: Box<dyn ErrorSink<M::Error>>,
     pub(crate) reaper_rate: Duration,
     pub(crate) queue_strategy: QueueStrategy,
     pub(crate) fair_after: Option<Duration>,
     pub(crate) connection_customizer: Option<Box<dyn CustomizeConnection<M::Connection, M::Error>>>,
+    pub(crate) name: Option<String>,
+    #[cfg_attr(not(feature = "tracing"), allow(dead_code))]
+    pub(crate) slow_get_threshold: Option<Duration>,
     _p: PhantomData<M>,
 }
 
@@ -87,18 +98,22 @@ impl<M: ManageConnection> Default for Builder<M> {
             max_lifetime: Some(30 * MINUTE),
             idle_timeout: Some(10 * MINUTE),
             connection_timeout: MINUTE / 2,
+            connect_timeout: None,
+            test_timeout: None,
             retry_connection: true,
             error_sink: Box::new(NopErrorSink),
             reaper_rate: MINUTE / 2,
             queue_strategy: QueueStrategy::default(),
             fair_after: None,
             connection_customizer: None,
+            name: None,
+            slow_get_threshold: Some(Duration::from_secs(2)),
             _p: PhantomData,
         }
     }
 }
 
-/// Panics where a limit is set to zero.
+/// Panics if a limit is zero.
 #[track_caller]
 fn assert_above_zero(limit: Option<Duration>, name: &str) {
     let is_zero = limit == Some(Duration::ZERO);
@@ -106,17 +121,17 @@ fn assert_above_zero(limit: Option<Duration>, name: &str) {
 }
 
 impl<M: ManageConnection> Builder<M> {
-    /// A builder with the default settings, which each setter names.
+    /// Returns a builder with the default settings. Each setter names its default.
     #[must_use]
     pub fn new() -> Self {
         Builder::default()
     }
 
-    /// Sets the most connections and openings under way, together: 10 by default.
+    /// Sets the maximum of connections and connection attempts, together. The default is 10.
     ///
     /// # Panics
     ///
-    /// At 0.
+    /// If it is 0.
     #[must_use]
     pub fn max_size(mut self, max_size: u32) -> Self {
         assert!(max_size > 0, "max_size must be greater than zero!");
@@ -124,28 +139,28 @@ impl<M: ManageConnection> Builder<M> {
         self
     }
 
-    /// Sets how many idle connections the pool tries to have, within `max_size`: none by default.
-    /// So many are not closed for being idle.
+    /// Sets how many idle connections the pool tries to keep, within `max_size`. The default is
+    /// none. The idle timeout spares as many.
     #[must_use]
     pub fn min_idle(mut self, min_idle: impl Into<Option<u32>>) -> Self {
         self.min_idle = min_idle.into();
         self
     }
 
-    /// Sets whether a connection is checked, by the manager's `is_valid`, before it is lent: true
-    /// by default.
+    /// Sets whether the manager's `is_valid` checks a connection before it is checked out. The
+    /// default is true.
     #[must_use]
     pub fn test_on_check_out(mut self, test_on_check_out: bool) -> Self {
         self.test_on_check_out = test_on_check_out;
         self
     }
 
-    /// Sets at which age a connection is closed: 30 minutes by default. An idle one is closed at
-    /// the next reaping, one that is lent when it comes back.
+    /// Sets the age at which a connection is closed. The default is 30 minutes. An idle connection
+    /// is closed by the next reap, a checked-out one when it is returned.
     ///
     /// # Panics
     ///
-    /// At zero.
+    /// If it is zero.
     #[must_use]
     pub fn max_lifetime(mut self, max_lifetime: impl Into<Option<Duration>>) -> Self {
         self.max_lifetime = max_lifetime.into();
@@ -153,12 +168,12 @@ impl<M: ManageConnection> Builder<M> {
         self
     }
 
-    /// Sets after how long an idle connection is closed, at the next reaping: 10 minutes by
-    /// default. As many as `min_idle` stay.
+    /// Sets after how long an idle connection is closed, by the next reap. The default is 10
+    /// minutes. As many as `min_idle` are kept.
     ///
     /// # Panics
     ///
-    /// At zero.
+    /// If it is zero.
     #[must_use]
     pub fn idle_timeout(mut self, idle_timeout: impl Into<Option<Duration>>) -> Self {
         self.idle_timeout = idle_timeout.into();
@@ -166,12 +181,12 @@ impl<M: ManageConnection> Builder<M> {
         self
     }
 
-    /// Sets how long a get may take, and how long an opening that fails is tried again: 30 seconds
-    /// by default.
+    /// Sets how long a get may take, and for how long a failed connection attempt is retried. The
+    /// default is 30 seconds.
     ///
     /// # Panics
     ///
-    /// At zero.
+    /// If it is zero.
     #[must_use]
     pub fn connection_timeout(mut self, connection_timeout: Duration) -> Self {
         assert!(
@@ -182,8 +197,65 @@ impl<M: ManageConnection> Builder<M> {
         self
     }
 
-    /// Sets whether an opening that failed is tried again until `connection_timeout` has passed:
-    /// true by default. The waits between are 0.4 s, 0.8 s, 1.6 s and so on, at most half the
+    /// Sets how long one attempt to open a connection may take: as long as `connection_timeout` by
+    /// default. An attempt that takes longer is dropped. It counts as failed, and is retried as
+    /// [`Builder::retry_connection`] says. So a server that accepts connections and never answers
+    /// does not hold the slots of the pool.
+    ///
+    /// Exception: [`Builder::build`] waits for its first connections without this limit, as bb8
+    /// does, because it has no error for it.
+    ///
+    /// # Panics
+    ///
+    /// If it is zero.
+    ///
+    /// # Examples
+    ///
+    /// ```
+    /// use bb8::{Builder, ManageConnection, Pool};
+    /// use std::time::Duration;
+    ///
+    /// fn patient<M: ManageConnection>() -> Builder<M> {
+    ///     Pool::builder().connect_timeout(Duration::from_secs(5))
+    /// }
+    /// ```
+    #[must_use]
+    pub fn connect_timeout(mut self, connect_timeout: impl Into<Option<Duration>>) -> Self {
+        self.connect_timeout = connect_timeout.into();
+        assert_above_zero(self.connect_timeout, "connect_timeout");
+        self
+    }
+
+    /// Sets how long a check may take: as long as its get has time by default. One that takes longer
+    /// counts as failed: its connection is closed, and the get goes on with the next one.
+    ///
+    /// If connections may die without a reset, as in a failover, set it to some hundred milliseconds,
+    /// so that gets do not wait for checks that never end. Without it, a get whose check hangs times
+    /// out, and that connection is closed, too.
+    ///
+    /// # Panics
+    ///
+    /// If it is zero.
+    ///
+    /// # Examples
+    ///
+    /// ```
+    /// use bb8::{Builder, ManageConnection, Pool};
+    /// use std::time::Duration;
+    ///
+    /// fn brisk<M: ManageConnection>() -> Builder<M> {
+    ///     Pool::builder().test_timeout(Duration::from_millis(200))
+    /// }
+    /// ```
+    #[must_use]
+    pub fn test_timeout(mut self, test_timeout: impl Into<Option<Duration>>) -> Self {
+        self.test_timeout = test_timeout.into();
+        assert_above_zero(self.test_timeout, "test_timeout");
+        self
+    }
+
+    /// Sets whether a failed connection attempt is retried until `connection_timeout` has passed.
+    /// The default is true. The pauses are 0.4 s, 0.8 s, 1.6 s and so on, at most half the
     /// `connection_timeout`.
     #[must_use]
     pub fn retry_connection(mut self, retry: bool) -> Self {
@@ -191,7 +263,7 @@ impl<M: ManageConnection> Builder<M> {
         self
     }
 
-    /// Sets who is told of errors that no caller sees: nobody by default.
+    /// Sets the sink for errors that no caller sees. By default they are ignored.
     ///
     /// # Examples
     ///
@@ -222,40 +294,40 @@ impl<M: ManageConnection> Builder<M> {
         self
     }
 
-    /// Sets how often the pool looks for connections that are too old, or idle too long: every 30
-    /// seconds by default. A pool that has neither limit does not look.
+    /// Sets how often the pool closes connections that are too old, or idle for too long. The
+    /// default is every 30 seconds. A pool without these limits has no reaper.
     #[must_use]
     pub fn reaper_rate(mut self, reaper_rate: Duration) -> Self {
         self.reaper_rate = reaper_rate;
         self
     }
 
-    /// Sets which idle connection is lent first: `Fifo` by default.
+    /// Sets which idle connection is checked out first. The default is `Fifo`.
     #[must_use]
     pub fn queue_strategy(mut self, queue_strategy: QueueStrategy) -> Self {
         self.queue_strategy = queue_strategy;
         self
     }
 
-    /// Sets after which wait a get is handed its connection: never by default. A millisecond is
-    /// what to take where gets wait.
+    /// Sets after which wait a get is handed its connection directly. By default this never
+    /// happens. If gets wait, a millisecond is a good choice.
     ///
-    /// By default a connection that comes free is promised to the get whose turn it is, which is
-    /// woken; but whoever asks before it comes takes the connection, and it waits anew, behind all
-    /// others. So a get may time out while a few tasks are served again and again. A get that has
-    /// waited for so long is handed the connection as it comes free, and nobody can take it from
-    /// there.
+    /// By default a returned connection becomes idle, and the longest waiter is woken. A get that
+    /// asks before the woken task runs takes the connection, and the woken get waits again, behind
+    /// all others. So a get may time out while a few tasks are served again and again. With this
+    /// setting, a get that has waited long enough is handed the connection when it is returned, and
+    /// no other get can take it.
     ///
-    /// At zero gets are served in the order in which they began to wait, as long as none of their
-    /// connections is closed: a get for which one is opened in its place goes to the end of the
-    /// line. But each connection that comes free lies idle until a task was woken, which costs from
-    /// a third to more than a half of all rounds where connections are held for microseconds. A
-    /// millisecond leaves those rounds as they are, and lets nobody wait for much longer than the
-    /// line before it takes. Where tasks compute for milliseconds without an await, it costs up to
-    /// a fifth, as they hold up whom they wake.
+    /// At zero, gets are served in the order in which they began to wait. Exception: if a
+    /// connection is closed instead of returned, the get for which another one is opened goes to
+    /// the back of the queue. But each returned connection is unused until a woken task runs, which
+    /// costs a third to more than half of all rounds if connections are held for microseconds. A
+    /// millisecond does not cost these rounds, and no get waits much longer than the gets before it
+    /// take. If tasks compute for milliseconds without an await, it costs up to a fifth, as they
+    /// delay the tasks that they wake.
     ///
-    /// A future that was handed a connection has it, and is to be polled or dropped. One that is
-    /// kept without being polled keeps the connection, also from the task that keeps it:
+    /// A future that was handed a connection has to be polled or dropped. If it is kept without
+    /// being polled, it keeps the connection, even from the task that owns it:
     ///
     /// ```
     /// # use bb8::{ManageConnection, Pool, RunError};
@@ -302,7 +374,7 @@ impl<M: ManageConnection> Builder<M> {
         self
     }
 
-    /// Sets who prepares each connection that is opened: nobody by default.
+    /// Sets the customizer, which prepares each opened connection. By default there is none.
     ///
     /// # Examples
     ///
@@ -313,7 +385,7 @@ impl<M: ManageConnection> Builder<M> {
     /// # #[derive(Debug)] struct Client;
     /// # impl Client { async fn ask<E>(&mut self, _: &str) -> Result<(), E> { Ok(()) } }
     ///
-    /// /// Has each connection of a server speak one time zone.
+    /// /// Sets the time zone of each connection.
     /// #[derive(Debug)]
     /// struct InUtc;
     ///
@@ -339,6 +411,43 @@ impl<M: ManageConnection> Builder<M> {
         self
     }
 
+    /// Sets the name of the pool in its `Debug` output, and in its events if the cargo feature
+    /// `tracing` is on: none by default.
+    ///
+    /// # Examples
+    ///
+    /// ```
+    /// use bb8::{Builder, ManageConnection, Pool};
+    ///
+    /// fn orders<M: ManageConnection>() -> Builder<M> {
+    ///     Pool::builder().name("orders")
+    /// }
+    /// ```
+    #[must_use]
+    pub fn name(mut self, name: impl Into<String>) -> Self {
+        self.name = Some(name.into());
+        self
+    }
+
+    /// Sets how long a `get` that waits or checks may take before the pool reports it by `tracing`,
+    /// with its state: two seconds by default. Without the cargo feature `tracing` it does nothing.
+    ///
+    /// # Examples
+    ///
+    /// ```
+    /// use bb8::{Builder, ManageConnection, Pool};
+    /// use std::time::Duration;
+    ///
+    /// fn watched<M: ManageConnection>() -> Builder<M> {
+    ///     Pool::builder().slow_get_threshold(Duration::from_millis(100))
+    /// }
+    /// ```
+    #[must_use]
+    pub fn slow_get_threshold(mut self, threshold: impl Into<Option<Duration>>) -> Self {
+        self.slow_get_threshold = threshold.into();
+        self
+    }
+
     #[track_caller]
     fn make(self, manager: M) -> Pool<M> {
         assert!(
@@ -350,24 +459,28 @@ impl<M: ManageConnection> Builder<M> {
         }
     }
 
-    /// Makes the pool, and waits until `min_idle` connections are open. Where one of them could not
-    /// be opened, the answer is its last error, and there is no pool.
+    /// Builds the pool, and waits until `min_idle` connections are open. If memory for some of them
+    /// is refused, they are opened later.
+    ///
+    /// # Errors
+    ///
+    /// The last error of a connection that could not be opened. Then there is no pool.
     ///
     /// # Panics
     ///
-    /// Where `min_idle` is above `max_size`; where an age is limited and `reaper_rate` is zero, or
-    /// no runtime of tokio is there; and where there is no memory for the pool.
+    /// If `min_idle` is above `max_size`; if an age is limited and `reaper_rate` is zero; and if an
+    /// age is limited and this is called outside of a tokio runtime.
     pub async fn build(self, manager: M) -> Result<Pool<M>, M::Error> {
         let pool = self.make(manager);
         pool.inner.start().await?;
         Ok(pool)
     }
 
-    /// Makes the pool and waits for nothing; its first connections are opened meanwhile.
+    /// Builds the pool without waiting. Its first connections are opened in the background.
     ///
     /// # Panics
     ///
-    /// As `build` does.
+    /// As [`build`](Self::build).
     pub fn build_unchecked(self, manager: M) -> Pool<M> {
         let pool = self.make(manager);
         pool.inner.spawn_start();

@@ -1,18 +1,18 @@
-//! Why a pool refuses.
+//! The errors of a pool.
 
 use std::error::Error;
 use std::fmt;
 
-/// Why a get has no connection.
+/// The error of a get.
 #[derive(Debug, Clone, PartialEq, Eq)]
 pub enum RunError<E> {
     /// An error of the manager.
     User(E),
-    /// No connection was there within `connection_timeout`.
+    /// No connection became available within `connection_timeout`.
     TimedOut,
     /// Memory for the get was refused.
     Memory,
-    /// The pool has no number left for another get: each below 2^64 - 1 was given.
+    /// The pool has no number left for another get: all below 2^64 - 1 are used up.
     Exhausted,
 }
 
@@ -42,14 +42,14 @@ impl<E: Error> From<E> for RunError<E> {
     }
 }
 
-/// Why a pool refused a connection that was to be added. Each case gives the connection back.
+/// The error of adding a connection. Each case returns the connection.
 #[derive(Debug, Clone, PartialEq, Eq)]
 pub enum AddError<C> {
-    /// The connection is broken, as the manager's `has_broken` says.
+    /// The manager's `has_broken` returned true.
     Broken(C),
-    /// Connections and openings under way are `max_size` already.
+    /// There are `max_size` connections and connection attempts already.
     NoCapacity(C),
-    /// Memory for its place was refused, or the pool has no number left for it.
+    /// Memory for the connection was refused, or the pool has no number left for it.
     Withheld(C),
 }
 

@@ -1,58 +1,77 @@
-//! What a pool tells of itself.
+//! The state and the statistics of a pool.
 
-use crate::core::Figures;
+use crate::pool::Counts;
+use bb8_core::api;
 use std::time::Duration;
 
-/// What a pool tells of itself, all at one moment.
+/// The state of a pool at one moment.
 #[derive(Clone, Debug, PartialEq, Eq)]
 #[non_exhaustive]
 pub struct State {
-    /// Connections that are idle or out.
+    /// Idle plus checked-out connections. Connection attempts in progress are not included.
     pub connections: u32,
-    /// Connections that are idle.
+    /// Idle connections.
     pub idle_connections: u32,
-    /// How often each thing happened.
+    /// Connection attempts in progress. One that waits for its next try is in progress, too.
+    pub pending_connections: u32,
+    /// What happened to the pool so far.
     pub statistics: Statistics,
 }
 
-/// How often each thing happened to a pool, since it was made.
+/// What happened to a pool since it was built.
+///
+/// At every moment, `connections_created` plus `connections_added` equals `connections_closed` plus
+/// [`State::connections`]. The figures by reason do not add up to `connections_closed`: a connection
+/// whose check failed and that was broken, too, counts in two of them, and those that the last
+/// handle closed in none.
 #[derive(Clone, Debug, Default, PartialEq, Eq)]
 #[non_exhaustive]
 pub struct Statistics {
-    /// Gets that began.
+    /// `get` calls that began.
     pub get_started: u64,
-    /// Gets that were served without ever having waited.
+    /// `get` calls that were served without ever having waited.
     pub get_direct: u64,
-    /// Gets that were served after they had waited. One that is handed its connection, and is not
-    /// to check it, is served by that: see [`Builder::fair_after`](crate::Builder::fair_after).
+    /// `get` calls that were served after they had waited. In a fair pool without checks a get is
+    /// served when it is handed a connection: see
+    /// [`Builder::fair_after`](crate::Builder::fair_after).
     pub get_waited: u64,
-    /// Gets that timed out.
+    /// `get` calls that timed out.
     pub get_timed_out: u64,
-    /// Gets whose future was dropped before its answer.
+    /// `get` calls whose future was dropped before it resolved. A `get` inside of tokio's `timeout`
+    /// counts here, not as timed out.
     pub get_cancelled: u64,
-    /// How long the gets that were served or timed out had waited, each from its first wait to where
-    /// it was served or timed out, in whole microseconds.
+    /// How long the served and timed-out gets had waited, each from its first wait to its end, in
+    /// whole microseconds.
     pub get_wait_time: Duration,
-    /// Connections that were opened; added ones do not count.
+    /// Connections that were opened by the pool.
     pub connections_created: u64,
-    /// Connections that were closed because they were broken.
+    /// Connections that were added by [`Pool::add`](crate::Pool::add).
+    pub connections_added: u64,
+    /// Attempts to open a connection that failed, timed out or panicked, each try counted.
+    pub connections_failed: u64,
+    /// Connections that were closed, for any reason, each counted once.
+    pub connections_closed: u64,
+    /// Connections that were closed because they were broken, or because their check was cut off.
     pub connections_closed_broken: u64,
-    /// Connections that were closed because their check had failed.
+    /// Connections that were closed because their check failed, or took longer than
+    /// [`Builder::test_timeout`](crate::Builder::test_timeout).
     pub connections_closed_invalid: u64,
     /// Connections that were closed because of `max_lifetime`.
     pub connections_closed_max_lifetime: u64,
     /// Connections that were closed because of `idle_timeout`.
     pub connections_closed_idle_timeout: u64,
+    /// Checks that took longer than `test_timeout`, or than their get had time.
+    pub checks_timed_out: u64,
 }
 
 impl Statistics {
-    /// Gets that began and were neither answered nor cancelled.
+    /// `get` calls in progress.
     pub fn pending_gets(&self) -> u64 {
         let ended = self.completed_gets().saturating_add(self.get_cancelled);
         self.get_started.saturating_sub(ended)
     }
 
-    /// Gets that were served or timed out.
+    /// `get` calls that were served or timed out.
     pub fn completed_gets(&self) -> u64 {
         self.get_direct
             .saturating_add(self.get_waited)
@@ -60,23 +79,31 @@ impl Statistics {
     }
 }
 
-impl From<Figures> for State {
-    fn from(figures: Figures) -> Self {
+impl State {
+    /// The state of the core, and what the core does not count.
+    pub(crate) fn new(state: api::State, pending_connections: u32, counts: &Counts) -> Self {
+        let figures = state.statistics;
+        let opened = figures.connections_created.saturating_add(counts.added);
         State {
-            connections: figures.connections,
-            idle_connections: figures.idle_connections,
+            connections: state.connections,
+            idle_connections: state.idle_connections,
+            pending_connections,
             statistics: Statistics {
                 get_started: figures.get_started,
                 get_direct: figures.get_direct,
                 get_waited: figures.get_waited,
                 get_timed_out: figures.get_timed_out,
                 get_cancelled: figures.get_cancelled,
-                get_wait_time: Duration::from_micros(figures.get_wait_micros),
+                get_wait_time: figures.get_wait_time,
                 connections_created: figures.connections_created,
+                connections_added: counts.added,
+                connections_failed: counts.failed,
+                connections_closed: opened.saturating_sub(state.connections.into()),
                 connections_closed_broken: figures.connections_closed_broken,
                 connections_closed_invalid: figures.connections_closed_invalid,
                 connections_closed_max_lifetime: figures.connections_closed_max_lifetime,
                 connections_closed_idle_timeout: figures.connections_closed_idle_timeout,
+                checks_timed_out: counts.checks_timed_out,
             },
         }
     }

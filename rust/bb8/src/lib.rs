@@ -1,11 +1,13 @@
 #![doc = include_str!("../README.md")]
-#![deny(missing_docs, missing_debug_implementations, unsafe_code)]
+#![deny(missing_docs, missing_debug_implementations)]
+#![forbid(unsafe_code)]
 
-mod aligned;
 mod api;
+mod boxed;
 mod builder;
 mod core;
 mod errors;
+mod events;
 mod figures;
 mod getting;
 mod lock;
@@ -13,7 +15,6 @@ mod managers;
 mod opening;
 mod pool;
 mod returning;
-mod shelf;
 #[cfg(test)]
 mod tests;
 mod waiters;

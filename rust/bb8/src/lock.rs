@@ -1,4 +1,4 @@
-//! The lock round the core: the standard library's, or that of `parking_lot`.
+//! The lock around the core: the standard library's, or that of `parking_lot`.
 
 #[cfg(feature = "parking_lot")]
 use parking_lot as implementation;
@@ -8,13 +8,13 @@ use std::sync::{self as implementation, PoisonError, TryLockError};
 pub(crate) use implementation::MutexGuard;
 use std::hint::spin_loop;
 
-/// A lock that knows no poison. Nothing of the user's runs under it: no manager, no drop of a
-/// connection, no waker. So a panic there is a fault of this crate that an assertion has found,
-/// before anything was lent or freed on the strength of it: a connection may be lost by it, none is
-/// lent twice.
+/// A lock without poisoning. No user code runs while it is held: no manager, no destructor of a
+/// connection, no waker. The core is proved not to panic. So a panic under the lock is a bug of
+/// this crate that one of its assertions has found, before a connection was checked out or a slot
+/// freed: a connection may leak, but none is checked out twice.
 ///
-/// What lies beside it is read without it, and so is in no line of the processor's memory that it
-/// is in.
+/// The alignment keeps the lock out of the cache lines of the fields next to it, which are read
+/// without it.
 #[repr(align(128))]
 pub(crate) struct Mutex<T>(implementation::Mutex<T>);
 
@@ -28,9 +28,9 @@ impl<T> Mutex<T> {
         self.try_lock().unwrap_or_else(|| self.lock_taken())
     }
 
-    /// Tries again after longer and longer waits, of some dozens of microseconds in all, and parks
-    /// the thread only then. A step is far shorter than a call of the system, and a thread that
-    /// makes many in a row has at hand all that the lock holds.
+    /// Tries again after longer and longer pauses, of some dozens of microseconds in total, before
+    /// it parks the thread. A step is far shorter than a system call, and a thread that makes many
+    /// steps in a row has the locked data in its cache.
     #[cold]
     fn lock_taken(&self) -> MutexGuard<'_, T> {
         for turns in [4, 16, 64, 256, 1024, 1024] {

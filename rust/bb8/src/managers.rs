@@ -1,36 +1,39 @@
-//! What a user of a pool brings: a manager, and, where wanted, a customizer and an error sink.
+//! The traits that users implement: the manager, the customizer and the error sink.
 
 use std::fmt;
 use std::future::Future;
 use std::pin::Pin;
 
-/// Opens connections and checks them.
+/// Defines how connections are opened and checked.
 pub trait ManageConnection: Sized + Send + Sync + 'static {
-    /// A connection.
+    /// The type of connections.
     type Connection: Send + 'static;
-    /// Why a connection could not be opened, or is not valid.
+    /// The error of a connection that could not be opened or is not valid.
     type Error: fmt::Debug + Send + 'static;
 
     /// Opens a connection.
     ///
-    /// After an error the pool tries again, as [`Builder::retry_connection`] says.
+    /// After an error the pool retries if [`Builder::retry_connection`] is set.
     ///
     /// [`Builder::retry_connection`]: crate::Builder::retry_connection
     fn connect(&self) -> impl Future<Output = Result<Self::Connection, Self::Error>> + Send;
 
-    /// Checks a connection before it is lent, where [`Builder::test_on_check_out`] asks for it.
+    /// Checks a connection before it is checked out, if [`Builder::test_on_check_out`] is set.
     ///
-    /// After an error the connection is closed, and the get looks for another one. A check that is
-    /// cut off, as its get timed out or was dropped, says nothing: the connection stays.
+    /// After an error the connection is closed, and the get tries another one. If a check is cut
+    /// off, because its get times out or is dropped, the connection is closed, too, as nobody knows
+    /// what the server will send next. [`Builder::test_timeout`] limits the time of a check.
     ///
     /// [`Builder::test_on_check_out`]: crate::Builder::test_on_check_out
+    /// [`Builder::test_timeout`]: crate::Builder::test_timeout
     fn is_valid(
         &self,
         conn: &mut Self::Connection,
     ) -> impl Future<Output = Result<(), Self::Error>> + Send;
 
-    /// Whether a connection is known to be broken, as far as can be told at once. The pool asks
-    /// whenever a connection is handed in, and closes one that is, or for which this panics.
+    /// Returns whether a connection is known to be broken. This should not block. The pool calls it
+    /// for each connection that is returned or added. It closes a returned connection that is
+    /// broken or for which this panics, and does not add a broken one.
     fn has_broken(&self, conn: &mut Self::Connection) -> bool;
 }
 
@@ -38,8 +41,8 @@ pub trait ManageConnection: Sized + Send + Sync + 'static {
 pub trait CustomizeConnection<C: Send + 'static, E: 'static>:
     fmt::Debug + Send + Sync + 'static
 {
-    /// Prepares a connection that the manager has just opened. An error counts as a failed opening.
-    /// By default nothing is done.
+    /// Prepares a connection that the manager has just opened. An error counts as a failed
+    /// connection attempt. By default this does nothing.
     fn on_acquire<'a>(
         &'a self,
         _connection: &'a mut C,
@@ -48,13 +51,13 @@ pub trait CustomizeConnection<C: Send + 'static, E: 'static>:
     }
 }
 
-/// Is told of errors that no caller sees: of checks that failed, and of openings by the pool
-/// itself.
+/// Receives errors that no caller sees: those of failed checks, and of connection attempts by the
+/// pool itself.
 pub trait ErrorSink<E>: fmt::Debug + Send + Sync + 'static {
-    /// Takes an error.
+    /// Receives an error.
     fn sink(&self, error: E);
 
-    /// A sink that does as this one.
+    /// Returns a sink like this one.
     fn boxed_clone(&self) -> Box<dyn ErrorSink<E>>;
 }
 

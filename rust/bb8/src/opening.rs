@@ -1,80 +1,84 @@
-//! The opening of one connection, for an approval that was claimed.
+//! One connection attempt, for a claimed approval.
 
-use crate::core::{Kind, Name};
+use crate::boxed::Reserved;
+use crate::core::{after, unfit, Key, Moment};
 use crate::managers::ManageConnection;
 use crate::pool::Shared;
 use std::sync::Arc;
 use std::task::Waker;
 use std::thread;
 use std::time::Duration;
-use tokio::time::{sleep, Instant};
+use tokio::time::{sleep, timeout, Instant};
 
-/// An approval that was claimed, and the place that is kept for its connection.
-pub(crate) struct Claimed {
-    approval: Name,
-    place: usize,
+/// A claimed approval, and the memory for its connection.
+pub(crate) struct Claimed<C> {
+    approval: Key,
+    reserved: Reserved<C>,
 }
 
-/// An approval that is claimed, until its connection is open or it is given back. It is no handle
-/// of the pool. Where it is dropped before, as its runtime ends, another one opens the connection.
+/// A connection attempt in progress. It does not keep the pool open. If it is dropped before it
+/// ended, because its runtime shuts down, another one takes over its approval.
 pub(crate) struct Opening<M: ManageConnection> {
     shared: Arc<Shared<M>>,
-    claimed: Option<Claimed>,
+    claimed: Option<Claimed<M::Connection>>,
 }
 
-/// Half of the first wait between two tries.
+/// Half of the first back-off.
 const SHORTEST: Duration = Duration::from_millis(200);
 
 impl<M: ManageConnection> Opening<M> {
-    pub(crate) fn of(shared: &Arc<Shared<M>>, claimed: Claimed) -> Self {
+    fn new(shared: &Arc<Shared<M>>, claimed: Claimed<M::Connection>) -> Self {
         Opening {
             shared: shared.clone(),
             claimed: Some(claimed),
         }
     }
 
-    /// Claims an approval. None where none is unclaimed, or memory for a place is refused: then it
-    /// stays unclaimed, and is claimed later.
+    /// Claims an approval. Returns `None` if there is none, or if memory for the connection is
+    /// refused: then the approval is left to be claimed later.
     pub(crate) fn claim(shared: &Arc<Shared<M>>) -> Option<Self> {
-        let at = shared.now();
-        let mut locked = shared.lock();
-        let Some(place) = locked.shelf.keep() else {
-            locked.unopened = true;
+        let Some(reserved) = Reserved::new() else {
+            shared.lock().unopened = true;
             return None;
         };
-        let told = locked.core.claim(at);
-        if told.kind() != Kind::Claimed {
-            locked.shelf.free(place);
-            return None;
-        }
-        drop(locked);
-        let approval = told.key;
-        Some(Opening::of(shared, Claimed { approval, place }))
+        let at = shared.now();
+        let approval = shared.lock().claim(at, shared.settings.max_size)?;
+        Some(Opening::new(shared, Claimed { approval, reserved }))
     }
 
-    /// Opens the connection, and tries again after an error as long as there is time for it and
-    /// somebody has a handle of the pool. The answer is the error of the last try.
-    pub(crate) async fn run(mut self) -> Result<(), M::Error> {
-        let limit = self.shared.settings.connection_timeout;
+    /// Takes over an attempt that was cut off.
+    pub(crate) fn again(shared: &Arc<Shared<M>>, claimed: Claimed<M::Connection>) -> Self {
+        shared.lock().pending += 1;
+        Opening::new(shared, claimed)
+    }
+
+    /// Opens the connection. After an error it tries again, as long as there is time for it and the
+    /// pool has a handle. An attempt may take as long as the limit. Returns the error of the last
+    /// one, or `None` if that took too long.
+    pub(crate) async fn run(mut self, limit: Duration) -> Result<(), Option<M::Error>> {
+        let time = self.shared.settings.connection_timeout;
         let start = Instant::now();
         let mut wait = Duration::ZERO;
         loop {
-            let error = match self.shared.connect().await {
-                Ok(conn) => {
+            let error = match timeout(limit, self.shared.connect()).await {
+                Ok(Ok(conn)) => {
                     self.enter(conn);
                     return Ok(());
                 }
-                Err(error) => error,
+                Ok(Err(error)) => Some(error),
+                Err(_) => None,
             };
+            self.shared.lock().counts.failed += 1;
+            self.shared.attempt_failed(error.as_ref());
             let retries = self.shared.settings.retry_connection;
-            if !retries || start.elapsed() > limit || !self.shared.is_alive() {
+            if !retries || start.elapsed() > time || !self.shared.is_alive() {
                 if let Some(claimed) = self.claimed.take() {
                     self.shared.give_back(claimed);
                 }
                 return Err(error);
             }
             self.shared.forward(error);
-            wait = wait.max(SHORTEST).saturating_mul(2).min(limit / 2);
+            wait = wait.max(SHORTEST).saturating_mul(2).min(time / 2);
             sleep(wait).await;
         }
     }
@@ -82,21 +86,27 @@ impl<M: ManageConnection> Opening<M> {
     /// As `run`, for a task of its own: the last error, too, goes to the error sink.
     pub(crate) async fn run_alone(self) {
         let shared = self.shared.clone();
-        if let Err(error) = self.run().await {
+        let settings = &shared.settings;
+        let limit = settings
+            .connect_timeout
+            .unwrap_or(settings.connection_timeout);
+        if let Err(error) = self.run(limit).await {
             shared.forward(error);
         }
     }
 
-    /// Hands the connection to the pool, which closes it if nobody has a handle any more.
+    /// Hands the connection to the pool, which closes it if there is no handle any more.
     fn enter(&mut self, conn: M::Connection) {
-        let Some(Claimed { approval, place }) = self.claimed.take() else {
+        let Some(Claimed { approval, reserved }) = self.claimed.take() else {
             return;
         };
+        let conn = Some(reserved.fill(conn));
+        self.shared.opened();
         let at = self.shared.now();
         let mut locked = self.shared.lock();
-        let told = locked.core.opened(at, approval, place as u64);
-        self.shared
-            .shelve(locked, at, &told, Kind::Entered, place, Some(conn));
+        locked.pending -= 1;
+        let entered = locked.core.opened(Moment(at), approval, conn);
+        self.shared.settle(locked, at, after(entered));
     }
 }
 
@@ -105,6 +115,9 @@ impl<M: ManageConnection> Drop for Opening<M> {
         let Some(claimed) = self.claimed.take() else {
             return;
         };
+        if thread::panicking() {
+            self.shared.lock().counts.failed += 1;
+        }
         // A manager that panics is not called again for the same approval.
         if thread::panicking() || !self.shared.is_alive() {
             self.shared.give_back(claimed);
@@ -118,20 +131,22 @@ impl<M: ManageConnection> Shared<M> {
     /// Whether a handle of the pool is alive.
     fn is_alive(&self) -> bool {
         let at = self.now();
-        self.lock().core.look(at).alive
+        self.lock().core.look(Moment(at)).alive
     }
 
-    /// Gives an approval back that brought no connection.
-    fn give_back(&self, Claimed { approval, place }: Claimed) {
+    /// Gives back an approval whose attempt failed for good.
+    fn give_back(&self, claimed: Claimed<M::Connection>) {
         let at = self.now();
         let mut locked = self.lock();
-        locked.core.failed(at, approval).assert(Kind::GivenBack);
-        locked.shelf.free(place);
+        locked.pending -= 1;
+        if locked.core.failed(Moment(at), claimed.approval).is_err() {
+            unfit();
+        }
     }
 
-    /// Leaves an approval to whoever makes the next step inside a runtime. Gets that wait for its
-    /// connection make none, so all are woken: the runtimes of some may have ended, too.
-    fn hand_on(&self, claimed: Claimed) {
+    /// Leaves an approval to the next task that makes a step inside of a runtime. Waiting gets make
+    /// none, so all are woken, as the runtimes of some may have shut down, too.
+    fn hand_on(&self, claimed: Claimed<M::Connection>) {
         let mut locked = self.lock();
         if locked.cut_off.try_reserve(1).is_err() {
             drop(locked);
@@ -139,6 +154,7 @@ impl<M: ManageConnection> Shared<M> {
             return;
         }
         locked.cut_off.push(claimed);
+        locked.pending -= 1;
         locked.unopened = true;
         let wakers = locked.waiters.wakers();
         drop(locked);

@@ -1,92 +1,128 @@
-//! The pool behind its handles: a lock round the core, the shelf and the wakers, and all that takes
-//! it but the gets and the openings.
+//! The pool behind its handles: a lock around the core and the waiters, and what acquires it, apart
+//! from gets and connection attempts.
 
-use crate::builder::{Builder, QueueStrategy};
-use crate::core::{self, Core, Kind, Name, Settings, Told};
+use crate::boxed::{Boxed, Reserved};
+use crate::builder::Builder;
+use crate::core::{
+    self, unfit, AddAnswer, AtOnce, Checkout, ClaimAnswer, ClosedList, Core, GetKey, Held, Key,
+    Moment, ReapAnswer, TryAnswer,
+};
 use crate::errors::AddError;
+use crate::events::{IDLE_TIMEOUT, NO_HANDLE};
 use crate::figures::State;
-use crate::getting::{self, Answer};
 use crate::lock::{Mutex, MutexGuard};
 use crate::managers::ManageConnection;
 use crate::opening::{Claimed, Opening};
-use crate::shelf::Shelf;
 use crate::waiters::{Handed, Waiters};
+use bb8_core::kit::Global;
 use futures_util::stream::{FuturesUnordered, StreamExt};
-use std::future::Future;
 use std::panic::resume_unwind;
 use std::sync::{Arc, Weak};
 use std::task::Waker;
 use std::time::Duration;
-use std::{fmt, iter, mem, thread};
+use std::{iter, mem, thread};
 use tokio::runtime::Handle;
 use tokio::time::{interval_at, Instant, Interval, MissedTickBehavior};
 
-/// A connection that is lent, its name in the core, and its place on the shelf.
-pub(crate) struct Lent<C> {
-    pub(crate) conn: C,
-    pub(crate) key: Name,
-    pub(crate) place: usize,
+/// What the lock protects.
+pub(crate) struct Locked<C> {
+    pub(crate) core: Core<C>,
+    /// The connections that the reaper or the last handle closed, until they are dropped outside of
+    /// the lock.
+    closed: ClosedList<Held<C>>,
+    pub(crate) waiters: Waiters<C>,
+    /// Whether connections are left to be opened, because memory, a runtime or a slot was missing.
+    pub(crate) unopened: bool,
+    /// The connection attempts that ended with their runtime.
+    pub(crate) cut_off: Vec<Claimed<C>>,
+    /// How many connection attempts are in progress.
+    pub(crate) pending: u32,
+    /// How many closed connections are being dropped. Their slots are free in the core already.
+    pub(crate) dropping: u32,
+    pub(crate) counts: Counts,
 }
 
-/// What the lock holds.
-pub(crate) struct Locked<C> {
-    pub(crate) core: Core,
-    pub(crate) shelf: Shelf<C>,
-    pub(crate) waiters: Waiters,
-    /// Whether something is left to be opened, for want of memory or of a runtime.
-    pub(crate) unopened: bool,
-    /// The approvals whose openings ended with their runtime.
-    pub(crate) cut_off: Vec<Claimed>,
+/// What the core does not count.
+#[derive(Default)]
+pub(crate) struct Counts {
+    pub(crate) added: u64,
+    pub(crate) failed: u64,
+    pub(crate) checks_timed_out: u64,
 }
 
 impl<C> Locked<C> {
-    /// Hands what is idle to a get that was notified, under the lock of the step that notified it,
-    /// so that no other comes between. The answer is its waker, and whether something is to be
+    /// Hands an idle connection to a notified get, in the critical section that notified it, so
+    /// that no other get comes in between. Returns its waker, and whether connections are to be
     /// opened.
-    pub(crate) fn hand_over(&mut self, at: u64, get: Name) -> (Option<Waker>, bool) {
-        let told = self.core.try_get(at, get);
-        assert!(matches!(told.kind(), Kind::Served | Kind::Taken));
-        let handed = self.handed(&told);
-        (self.waiters.hand(get, handed), told.granted.count > 0)
+    pub(crate) fn hand_off(&mut self, at: u64, get: GetKey) -> (Option<Waker>, bool) {
+        let (key, conn, grant, served) = match self.core.try_get(Moment(at), get) {
+            Ok(TryAnswer::Served(key, conn, grant)) => (key, conn, grant, true),
+            Ok(TryAnswer::Taken(key, conn, grant)) => (key, conn, grant, false),
+            Ok(TryAnswer::Waiting(_)) | Err(_) => unfit(),
+        };
+        let checkout = Checkout::new(key, conn);
+        let waker = self.waiters.hand_off(get, Handed { checkout, served });
+        (waker, grant.count > 0)
     }
 
-    /// What a step handed out.
-    #[inline]
-    pub(crate) fn handed(&mut self, told: &Told) -> Handed {
-        self.shelf.promise(1);
-        Handed {
-            key: told.key,
-            place: told.shelved(),
-            served: told.is(Kind::Served),
+    /// Makes room in the list of closed connections for so many more, if memory is granted.
+    fn has_room(&mut self, more: u32) -> bool {
+        self.closed.grow(self.closed.len() + more as usize).is_ok()
+    }
+
+    /// Closes connections that are too old or idle for too long. Returns whether connections are to
+    /// be opened. If memory for the list of closed connections is refused, nothing is closed.
+    fn reap(&mut self, at: u64) -> bool {
+        if !self.has_room(self.core.idle()) {
+            return self.unopened;
+        }
+        match self.core.reap_into(Moment(at), &mut self.closed) {
+            ReapAnswer::Reaped { grant, .. } => grant.count > 0 || self.unopened,
+            ReapAnswer::Ended => self.unopened,
         }
     }
 
-    /// Takes a connection that was handed out.
-    #[inline]
-    pub(crate) fn lend(&mut self, handed: &Handed) -> Lent<C> {
-        Lent {
-            conn: self.shelf.take(handed.place),
-            key: handed.key,
-            place: handed.place,
+    /// Drops the one handle that the core counts, which closes the idle connections. If memory for
+    /// the list of closed connections is refused, nothing changes.
+    fn leave(&mut self, at: u64) {
+        if self.has_room(self.core.closed_by_leave()) {
+            self.core.leave_into(Moment(at), &mut self.closed);
         }
     }
 
-    /// Takes the connection off the shelf that a reap or the last leave closed first, of those that
-    /// stand there yet.
-    pub(crate) fn take_closed(&mut self) -> Option<C> {
-        let told = self.core.closed_next();
-        if !told.is(Kind::ToldClosed) {
+    /// Takes the next connection that the reaper or the last handle closed.
+    pub(crate) fn take_closed(&mut self) -> Held<C> {
+        let closed = self.closed.pop()?;
+        self.dropping += 1;
+        closed.conn
+    }
+
+    /// Notes that a closed connection was dropped. Returns whether connections are left to be opened.
+    pub(crate) fn is_dropped(&mut self) -> bool {
+        self.dropping -= 1;
+        self.unopened
+    }
+
+    /// Whether closed connections, whose slots are free in the core, are not dropped yet.
+    pub(crate) fn is_dropping(&self) -> bool {
+        self.dropping > 0 || self.closed.len() > 0
+    }
+
+    /// Claims an approval, so that one more connection may be opened. Until closed connections are
+    /// dropped, they count as well, so that no more than `max_size` are ever alive.
+    pub(crate) fn claim(&mut self, at: u64, max_size: u32) -> Option<Key> {
+        if self.is_dropping() {
+            let alive = self.core.state(Moment(at)).connections + self.pending + self.dropping;
+            if alive as usize + self.closed.len() >= max_size as usize {
+                self.unopened = true;
+                return None;
+            }
+        }
+        let ClaimAnswer::Claimed(approval) = self.core.claim(Moment(at)) else {
             return None;
-        }
-        let conn = self.shelf.take(told.shelved());
-        self.shelf.free(told.shelved());
-        Some(conn)
-    }
-
-    /// Whether connections are to be opened after a step.
-    #[inline]
-    pub(crate) fn is_due(&self, told: &Told) -> bool {
-        told.granted.count > 0 || self.unopened
+        };
+        self.pending += u32::from(approval.is_some());
+        approval
     }
 }
 
@@ -129,8 +165,18 @@ impl<M: ManageConnection> Shared<M> {
         }
     }
 
-    pub(crate) fn forward(&self, error: M::Error) {
-        self.settings.error_sink.sink(error);
+    pub(crate) fn state(&self) -> State {
+        let at = self.now();
+        let mut locked = self.lock();
+        let state = locked.core.state(Moment(at));
+        State::new(state, locked.pending, &locked.counts)
+    }
+
+    /// Reports an error to the error sink, if there is one.
+    pub(crate) fn forward(&self, error: Option<M::Error>) {
+        if let Some(error) = error {
+            self.settings.error_sink.sink(error);
+        }
     }
 
     pub(crate) async fn connect(&self) -> Result<M::Connection, M::Error> {
@@ -141,9 +187,9 @@ impl<M: ManageConnection> Shared<M> {
         Ok(conn)
     }
 
-    /// Opens connections for all approvals whose openings were cut off, and for all that are
-    /// unclaimed, each by a task of its own. A runtime that ends drops such a task at once, which
-    /// cuts its opening off anew: so those that were cut off before are taken in one piece.
+    /// Opens connections for all approvals whose attempts were cut off, and for all that are
+    /// unclaimed, each in a task of its own. A runtime that shuts down drops such a task at once,
+    /// which cuts its attempt off anew: so those that were cut off before are taken in one piece.
     #[cold]
     pub(crate) fn open(self: &Arc<Self>) {
         let Ok(runtime) = Handle::try_current() else {
@@ -152,11 +198,15 @@ impl<M: ManageConnection> Shared<M> {
         };
         let again = {
             let mut locked = self.lock();
-            locked.unopened = false;
-            mem::take(&mut locked.cut_off)
+            locked.unopened = locked.is_dropping() && !locked.cut_off.is_empty();
+            if locked.unopened {
+                Vec::new()
+            } else {
+                mem::take(&mut locked.cut_off)
+            }
         };
         let mut again = again.into_iter();
-        let next = || again.next().map(|claimed| Opening::of(self, claimed));
+        let next = || again.next().map(|claimed| Opening::again(self, claimed));
         for opening in iter::from_fn(next).chain(iter::from_fn(|| Opening::claim(self))) {
             runtime.spawn(opening.run_alone());
         }
@@ -168,9 +218,10 @@ pub(crate) fn nanoseconds(span: Duration) -> u64 {
     seconds.saturating_add(u64::from(span.subsec_nanos()))
 }
 
-/// The one handle that the core counts; all handles of the pool share it. Once the last of them is
-/// gone, the core is left, and the idle connections are closed. Where memory to list them is
-/// refused, they are closed with the last opening that is under way.
+/// The one handle that the core counts. All handles of the pool share it. When it is dropped, which
+/// happens once, it makes the core's `leave`, which requires a handle that is alive and closes the
+/// idle connections. If memory to list them is refused, they are dropped with the last connection
+/// attempt in progress.
 struct Owner<M: ManageConnection> {
     shared: Arc<Shared<M>>,
 }
@@ -178,9 +229,8 @@ struct Owner<M: ManageConnection> {
 impl<M: ManageConnection> Drop for Owner<M> {
     fn drop(&mut self) {
         let at = self.shared.now();
-        let told = self.shared.lock().core.leave(at);
-        assert!(matches!(told.kind(), Kind::Left | Kind::Memory));
-        match self.shared.drop_closed() {
+        self.shared.lock().leave(at);
+        match self.shared.drop_closed(NO_HANDLE) {
             // Beside another panic it would end the process.
             Err(panicked) if !thread::panicking() => resume_unwind(panicked),
             _ => {}
@@ -200,46 +250,29 @@ impl<M: ManageConnection> Clone for PoolInner<M> {
     }
 }
 
-impl<M: ManageConnection> fmt::Debug for PoolInner<M> {
-    fn fmt(&self, f: &mut fmt::Formatter<'_>) -> fmt::Result {
-        write!(f, "PoolInner({:p})", self.owner)
-    }
-}
-
 impl<M: ManageConnection> PoolInner<M> {
-    /// Ends the build of a program for another target in a sentence; a check and the docs go on.
-    const HAS_CORE: () = assert!(
-        core::IS_THERE,
-        "bb8 has its proved core for x86-64 and aarch64 Linux alone"
-    );
-
     /// A pool of settings that the builder has tested. It reaps, where an age is limited.
     pub(crate) fn new(settings: Builder<M>, manager: M) -> Self {
-        let () = Self::HAS_CORE;
-        let limit = |limit: Option<Duration>| limit.map_or(0, nanoseconds);
-        let core = Core::new(Settings {
-            max_size: settings.max_size,
-            min_idle: settings.min_idle.unwrap_or(0),
-            test_on_check_out: settings.test_on_check_out,
-            lifo: settings.queue_strategy == QueueStrategy::Lifo,
-            max_lifetime: limit(settings.max_lifetime),
-            idle_timeout: limit(settings.idle_timeout),
-        });
+        let core = core::core(&settings);
         let started = Instant::now();
+        let hands_off = settings.fair_after.is_some();
         let has_limits = settings.max_lifetime.is_some() || settings.idle_timeout.is_some();
         let rate = settings.reaper_rate;
         let shared = Arc::new(Shared {
-            needs_moment: has_limits || settings.fair_after.is_some(),
+            needs_moment: has_limits || hands_off,
             fair_after: settings.fair_after.map(nanoseconds),
             settings,
             manager,
             started,
             locked: Mutex::new(Locked {
-                core: core.expect("there is memory for a pool"),
-                shelf: Shelf::new(),
-                waiters: Waiters::new(),
+                core,
+                closed: ClosedList::new(Global),
+                waiters: Waiters::new(hands_off),
                 unopened: false,
                 cut_off: Vec::new(),
+                pending: 0,
+                dropping: 0,
+                counts: Counts::default(),
             }),
         });
         let owner = Arc::new(Owner { shared });
@@ -252,7 +285,7 @@ impl<M: ManageConnection> PoolInner<M> {
     }
 
     #[inline]
-    fn shared(&self) -> &Arc<Shared<M>> {
+    pub(crate) fn shared(&self) -> &Arc<Shared<M>> {
         &self.owner.shared
     }
 
@@ -267,18 +300,21 @@ impl<M: ManageConnection> PoolInner<M> {
     fn fill(&self) {
         let shared = self.shared();
         let at = shared.now();
-        shared.lock().core.fill(at, false).assert(Kind::Granted);
+        shared.lock().core.fill(Moment(at), false);
     }
 
-    /// Opens the first connections.
+    /// Opens the first connections. Each attempt may take any time, as `build` has no error for one
+    /// that takes too long.
     pub(crate) async fn start(&self) -> Result<(), M::Error> {
         self.fill();
         let mut openings = FuturesUnordered::new();
         while let Some(opening) = Opening::claim(self.shared()) {
-            openings.push(opening.run());
+            openings.push(opening.run(Duration::MAX));
         }
         while let Some(opened) = openings.next().await {
-            opened?;
+            if let Err(Some(error)) = opened {
+                return Err(error);
+            }
         }
         Ok(())
     }
@@ -289,93 +325,77 @@ impl<M: ManageConnection> PoolInner<M> {
         self.shared().open();
     }
 
-    /// Serves a get where a connection is idle and none is to be checked. No timer is made.
+    /// Serves a get at once if a connection is idle and connections are not checked.
     #[inline]
-    pub(crate) fn get_at_once(&self) -> Option<Lent<M::Connection>> {
+    pub(crate) fn get_at_once(&self) -> Option<Checkout<M::Connection>> {
         let shared = self.shared();
         if shared.settings.test_on_check_out {
             return None;
         }
         let mut locked = shared.lock();
-        if locked.shelf.idle() == 0 {
+        if locked.core.idle() == 0 {
             return None;
         }
-        // The moment of a get that does not wait counts for nothing.
-        let told = locked.core.serve_at_once(0);
-        if !told.is(Kind::Served) {
-            return None;
-        }
-        let handed = locked.handed(&told);
-        let lent = locked.lend(&handed);
-        let due = locked.is_due(&told);
+        // The moment of a get that does not wait does not matter.
+        let AtOnce {
+            key, conn, grant, ..
+        } = locked.core.serve_at_once(Moment(0))?;
+        let due = grant.count > 0 || locked.unopened;
         drop(locked);
         if due {
             shared.open();
         }
-        Some(lent)
-    }
-
-    pub(crate) fn get(&self) -> impl Future<Output = Answer<M>> + '_ {
-        getting::get(self.shared())
+        Some(Checkout::new(key, conn))
     }
 
     #[inline]
-    pub(crate) fn put_back(&self, lent: Lent<M::Connection>) {
-        self.shared().put_back(lent);
+    pub(crate) fn put_back(&self, checkout: Checkout<M::Connection>) {
+        self.shared().put_back(checkout);
     }
 
     pub(crate) fn add(&self, mut conn: M::Connection) -> Result<(), AddError<M::Connection>> {
         let shared = self.shared();
         let broken = shared.manager.has_broken(&mut conn);
-        let at = shared.now();
-        let mut locked = shared.lock();
-        let Some(place) = locked.shelf.keep() else {
+        let Some(reserved) = Reserved::new() else {
             return Err(if broken {
                 AddError::Broken(conn)
             } else {
                 AddError::Withheld(conn)
             });
         };
-        let told = locked.core.add(at, place as u64, broken);
-        let refused = match told.kind() {
-            Kind::Added => {
-                locked.shelf.put(place, conn);
-                shared.settle(locked, at, &told, None);
+        let conn = Some(reserved.fill(conn));
+        let at = shared.now();
+        let mut locked = shared.lock();
+        let (refused, conn): (fn(_) -> _, _) = match locked.core.add(Moment(at), conn, broken) {
+            Ok(AddAnswer::Added(_, notified)) => {
+                locked.counts.added += 1;
+                shared.settle(locked, at, core::kept(notified));
                 return Ok(());
             }
-            Kind::Broken => AddError::Broken(conn),
-            Kind::NoCapacity => AddError::NoCapacity(conn),
-            Kind::Withheld => AddError::Withheld(conn),
-            kind => unreachable!("{kind:?} is no answer to an adding"),
+            Ok(AddAnswer::Broken(conn)) => (AddError::Broken, conn),
+            Ok(AddAnswer::NoCapacity(conn)) => (AddError::NoCapacity, conn),
+            Ok(AddAnswer::Withheld(conn)) => (AddError::Withheld, conn),
+            Err(_) => unfit(),
         };
-        locked.shelf.free(place);
-        Err(refused)
+        drop(locked);
+        match conn {
+            Some(conn) => Err(refused(Boxed::into_inner(conn))),
+            None => unreachable!("the core returns what it was handed"),
+        }
     }
 
     pub(crate) fn state(&self) -> State {
-        let shared = self.shared();
-        let at = shared.now();
-        let mut locked = shared.lock();
-        let figures = locked.core.state(at);
-        debug_assert_eq!(figures.idle_connections as usize, locked.shelf.idle());
-        State::from(figures)
+        self.shared().state()
     }
 
     /// Where memory to list what is closed is refused, the next reap closes it.
     pub(crate) fn reap(&self) {
         let shared = self.shared();
         let at = shared.now();
-        let mut locked = shared.lock();
-        let told = locked.core.reap(at);
-        match told.kind() {
-            Kind::Reaped => locked.shelf.promise(told.key.number as usize),
-            kind => assert_eq!(kind, Kind::Memory),
-        }
-        let due = locked.is_due(&told);
-        drop(locked);
-        // What panics there was told by the panic hook, and is not to end the reaper.
-        let _panicked = shared.drop_closed();
-        if due {
+        let due = shared.lock().reap(at);
+        // The panic hook has reported panics there. They do not end the reaper.
+        let _panicked = shared.drop_closed(IDLE_TIMEOUT);
+        if due || shared.lock().unopened {
             shared.open();
         }
     }

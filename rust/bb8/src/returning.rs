@@ -1,18 +1,19 @@
-//! How a connection comes back, and what follows a step: who is woken or handed something, what is
-//! opened, what is dropped. All that is the user's (the manager, the drops of connections, wakers)
-//! runs outside the lock, and may panic.
+//! How connections are returned, and what follows a step: which get is woken or handed a connection,
+//! what is opened, what is dropped. User code (the manager, the destructors of connections, wakers)
+//! runs outside of the lock, and may panic.
 
-use crate::core::{Core, Kind, Name, Told};
+use crate::core::{after, After, Checkout, Core, GetKey, Held, Key, Moment};
+use crate::events::{FAILED_CHECK, MAX_LIFETIME, NO_HANDLE};
 use crate::lock::MutexGuard;
 use crate::managers::ManageConnection;
-use crate::pool::{Lent, Locked, Shared};
+use crate::pool::{Locked, Shared};
 use std::any::Any;
 use std::mem::ManuallyDrop;
 use std::panic::{catch_unwind, AssertUnwindSafe};
 use std::sync::Arc;
 use std::task::Waker;
 
-/// Does something at the end of a scope, also of one that a panic leaves.
+/// Runs a closure at the end of a scope, even if a panic unwinds through it.
 struct Finally<F: FnOnce()>(Option<F>);
 
 impl<F: FnOnce()> Drop for Finally<F> {
@@ -24,119 +25,109 @@ impl<F: FnOnce()> Drop for Finally<F> {
     }
 }
 
-/// A step that hands in the connection of this name and at this place, broken or not.
-pub(crate) trait HandsIn: FnOnce(&mut Core, u64, Name, u64, bool) -> Told {}
+/// A step that returns the connection with this key, unless it was dropped, broken or not.
+pub(crate) trait HandsIn<C>:
+    FnOnce(&mut Core<C>, Moment, Key, Held<C>, bool) -> Option<After<C>>
+{
+}
 
-impl<F: FnOnce(&mut Core, u64, Name, u64, bool) -> Told> HandsIn for F {}
+impl<C, F: FnOnce(&mut Core<C>, Moment, Key, Held<C>, bool) -> Option<After<C>>> HandsIn<C> for F {}
 
-/// A connection that is out, and the step that is to tell the core that it came back. Where this is
-/// dropped the step is made, as the connection is gone: else its room would be lost for ever.
-struct Owed<'a, M: ManageConnection, S: HandsIn> {
+/// The step that reports the return of a checked-out connection to the core. If this is dropped, the
+/// step is made without the connection, which is gone: otherwise its slot would leak.
+struct Owed<'a, M: ManageConnection, S: HandsIn<M::Connection>> {
     shared: &'a Arc<Shared<M>>,
-    key: Name,
-    place: usize,
+    key: Key,
     broken: bool,
     clock: fn(&Shared<M>) -> u64,
     step: Option<S>,
 }
 
-impl<M: ManageConnection, S: HandsIn> Owed<'_, M, S> {
+impl<M: ManageConnection, S: HandsIn<M::Connection>> Owed<'_, M, S> {
     /// Makes the step.
     #[inline(always)]
-    fn tell(&mut self, conn: Option<M::Connection>) {
+    fn tell(&mut self, conn: Held<M::Connection>) {
         let Some(step) = self.step.take() else {
             return;
         };
         let at = (self.clock)(self.shared);
         let mut locked = self.shared.lock();
-        let place = self.place as u64;
-        let told = step(&mut locked.core, at, self.key, place, self.broken);
-        self.shared
-            .shelve(locked, at, &told, Kind::Kept, self.place, conn);
+        let after = step(&mut locked.core, Moment(at), self.key, conn, self.broken);
+        self.shared.settle(locked, at, after);
     }
 }
 
-impl<M: ManageConnection, S: HandsIn> Drop for Owed<'_, M, S> {
+impl<M: ManageConnection, S: HandsIn<M::Connection>> Drop for Owed<'_, M, S> {
     #[cold]
     fn drop(&mut self) {
         self.tell(None);
     }
 }
 
+/// What becomes of a connection that is returned.
+#[derive(Clone, Copy, PartialEq, Eq)]
+pub(crate) enum Fate {
+    /// It is kept unless it is broken.
+    Kept,
+    /// It is closed, as its check failed.
+    Invalid,
+    /// It is closed as broken. Its check was cut off, so nobody knows what the server sends next.
+    CutOff,
+}
+
 impl<M: ManageConnection> Shared<M> {
-    /// Takes a connection back that was lent.
+    /// Returns a checked-out connection to the pool.
     #[inline]
-    pub(crate) fn put_back(self: &Arc<Self>, lent: Lent<M::Connection>) {
-        self.take_back(lent, true, Shared::back_now, Core::put_back);
+    pub(crate) fn put_back(self: &Arc<Self>, checkout: Checkout<M::Connection>) {
+        self.take_back(
+            checkout,
+            Fate::Kept,
+            Shared::back_now,
+            |core, at, key, conn, broken| after(core.put_back(at, key, conn, broken)),
+        );
     }
 
-    /// Takes a connection back by a step, at the moment that the clock tells. One that is broken,
-    /// also as its manager panics, or that is not to be kept, is dropped before the core gives its
-    /// room away.
+    /// Returns a checked-out connection by a step, at the moment that the clock returns. If it is not
+    /// kept, or if asking the manager whether it is broken panics, it is dropped before the core
+    /// frees its slot.
     #[inline]
     pub(crate) fn take_back(
         self: &Arc<Self>,
-        lent: Lent<M::Connection>,
-        keep: bool,
+        checkout: Checkout<M::Connection>,
+        fate: Fate,
         clock: fn(&Shared<M>) -> u64,
-        step: impl HandsIn,
+        step: impl HandsIn<M::Connection>,
     ) {
         // It is dropped after the connection.
         let mut owed = Owed {
             shared: self,
-            key: lent.key,
-            place: lent.place,
+            key: checkout.key,
             broken: true,
             clock,
             step: Some(step),
         };
-        let mut conn = lent.conn;
-        owed.broken = self.manager.has_broken(&mut conn);
-        if keep && !owed.broken {
+        let mut conn = checkout.conn;
+        owed.broken = fate == Fate::CutOff || self.manager.has_broken(&mut conn);
+        if fate == Fate::Kept && !owed.broken {
             ManuallyDrop::new(owed).tell(Some(conn));
+        } else if owed.broken {
+            self.broken(&conn);
+        } else {
+            self.closed(&conn, FAILED_CHECK);
         }
     }
 
-    /// Goes on after a step to which a connection was handed in, if it is not dropped already: where
-    /// it is kept, as this kind tells, it is idle at its place; else that is free and it is dropped.
-    #[inline(always)]
-    pub(crate) fn shelve(
-        self: &Arc<Self>,
-        mut locked: MutexGuard<'_, Locked<M::Connection>>,
-        at: u64,
-        told: &Told,
-        kept: Kind,
-        place: usize,
-        conn: Option<M::Connection>,
-    ) {
-        match conn {
-            Some(conn) if told.is(kept) => {
-                locked.shelf.put(place, conn);
-                self.settle(locked, at, told, None);
-            }
-            conn => {
-                // (`{told:?}` would have the reference lie in memory, on the way above, too.)
-                assert!(told.is(Kind::Closed) || told.is(Kind::Late), "{:?}", *told);
-                locked.shelf.free(place);
-                self.settle(locked, at, told, conn);
-            }
-        }
-    }
-
-    /// Goes on after a step at this moment: unlocks, drops what it closed, has opened what it
-    /// granted, and wakes whom it notified, or hands it a connection first.
+    /// Goes on after a step at this moment: releases the lock, drops the closed connection, starts
+    /// the granted connection attempts, and wakes the notified get or hands it a connection.
     #[inline(always)]
     pub(crate) fn settle(
         self: &Arc<Self>,
         locked: MutexGuard<'_, Locked<M::Connection>>,
         at: u64,
-        told: &Told,
-        closed: Option<M::Connection>,
+        after: Option<After<M::Connection>>,
     ) {
-        let due = locked.is_due(told);
-        let notified = told.notified();
-        if closed.is_some() || notified.is_some() || due {
-            self.follow(locked, at, due, notified, closed);
+        if after.is_some() || locked.unopened {
+            self.follow(locked, at, after);
         }
     }
 
@@ -145,18 +136,29 @@ impl<M: ManageConnection> Shared<M> {
         self: &Arc<Self>,
         mut locked: MutexGuard<'_, Locked<M::Connection>>,
         at: u64,
-        mut due: bool,
-        notified: Option<Name>,
-        closed: Option<M::Connection>,
+        after: Option<After<M::Connection>>,
     ) {
-        let mut waker = None;
-        if let Some(get) = notified {
-            let (woken, more) = self.notify(&mut locked, at, get);
-            waker = woken;
-            due |= more;
+        let (mut due, mut waker, mut closed) = (locked.unopened, None, None);
+        if let Some(after) = after {
+            due |= after.grants;
+            closed = after.closed;
+            locked.dropping += u32::from(closed.is_some());
+            if let Some(get) = after.notified {
+                let (woken, more) = self.notify(&mut locked, at, get);
+                waker = woken;
+                due |= more;
+            }
         }
+        let is_alive = locked.core.fits_join();
         drop(locked);
+        if let Some(conn) = &closed {
+            self.closed(conn, if is_alive { MAX_LIFETIME } else { NO_HANDLE });
+        }
+        let is_closed = closed.is_some();
         let _last = Finally(Some(|| {
+            if is_closed {
+                due |= self.lock().is_dropped();
+            }
             if due {
                 self.open();
             }
@@ -167,36 +169,38 @@ impl<M: ManageConnection> Shared<M> {
         drop(closed);
     }
 
-    /// What follows for a get that was notified: whom to wake, and whether something is to be
-    /// opened. Where nothing is idle it tries by itself, as what its try asks for is opened in the
-    /// runtime of who tries. Where memory to note that it waits was refused it gives up, and its
-    /// notification goes on.
+    /// Returns the waker of a notified get, and whether connections are to be opened. In a fair pool
+    /// the get is handed an idle connection. If none is idle it has to try by itself, since the
+    /// connection that it then requests is opened in the runtime of its task. A get that is not here
+    /// had no memory to wait: it gives up, which passes its notification on.
     #[inline]
     fn notify(
         &self,
         locked: &mut Locked<M::Connection>,
         at: u64,
-        get: Name,
+        get: GetKey,
     ) -> (Option<Waker>, bool) {
-        let waited = |wait| {
+        let mut waited = |wait| {
             let since = locked.waiters.since(get);
             since.is_some_and(|since| at.saturating_sub(since) >= wait)
         };
-        if self.fair_after.is_some_and(waited) && locked.shelf.idle() > 0 {
-            locked.hand_over(at, get)
+        if self.fair_after.is_some_and(&mut waited) && locked.core.idle() > 0 {
+            locked.hand_off(at, get)
         } else {
             (locked.waiters.notify(get), false)
         }
     }
 
-    /// Drops the connections that a reap or the last leave closed, one by one and outside the lock:
-    /// a connection may take time to close, and its drop may call the pool. Where some of these
-    /// drops panic, the others are made all the same; the answer is the first panic.
-    pub(crate) fn drop_closed(&self) -> Result<(), Box<dyn Any + Send>> {
+    /// Drops the connections that the reaper or the last handle closed, one by one and outside of
+    /// the lock: a destructor may take long, and may call the pool. If some of them panic, the others
+    /// run all the same, and the first panic is returned.
+    pub(crate) fn drop_closed(&self, reason: &str) -> Result<(), Box<dyn Any + Send>> {
         let next = || self.lock().take_closed();
         let mut result = Ok(());
         while let Some(conn) = next() {
+            self.closed(&conn, reason);
             let dropped = catch_unwind(AssertUnwindSafe(|| drop(conn)));
+            self.lock().is_dropped();
             result = result.and(dropped);
         }
         result

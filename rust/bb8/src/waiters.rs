@@ -1,125 +1,141 @@
-//! The gets that wait: of each its waker, or the connection that it was handed.
+//! The gets that wait: the waker of each, or the connection that was handed to it.
 //!
-//! A get stands here under its number, which no other get ever has, until it tries again, comes for
-//! what it was handed, or ends. The core may know nothing of it any more by then.
+//! A waiting get stands at its index in the core's table of gets, which it has to itself meanwhile.
+//! One that was handed a connection stands under its number: the core may have given its index away
+//! by then.
 
-use crate::core::Name;
+use crate::core::{Checkout, GetKey};
 use std::collections::HashMap;
-use std::hash::{BuildHasherDefault, Hasher};
-use std::mem;
 use std::task::Waker;
 
-/// A connection that was handed to a get. It stands on the shelf until the get comes for it.
-pub(crate) struct Handed {
-    /// Its name in the core.
-    pub(crate) key: Name,
-    /// Its place on the shelf.
-    pub(crate) place: usize,
-    /// Whether the get was served by it; else it is to be checked first.
+/// A connection that was handed to a waiting get, until the get is polled.
+pub(crate) struct Handed<C> {
+    pub(crate) checkout: Checkout<C>,
+    /// Whether the get was served with it. Otherwise the connection is to be checked first.
     pub(crate) served: bool,
 }
 
-/// What stands here for a get.
-pub(crate) enum Waiter {
-    /// The moment since which it waits, and its waker, until it is woken.
-    Waits(u64, Option<Waker>),
-    /// What it was handed.
-    Handed(Handed),
+/// A waiting get.
+struct Waiting {
+    number: u64,
+    since: u64,
+    waker: Option<Waker>,
 }
 
-/// Spreads the numbers of gets. They are given in turn, so nobody can choose them to meet.
-#[derive(Default)]
-pub(crate) struct Spread(u64);
-
-impl Hasher for Spread {
-    fn write(&mut self, _: &[u8]) {
-        unreachable!("only numbers are spread");
-    }
-
-    fn write_u64(&mut self, number: u64) {
-        self.0 = number.wrapping_mul(0x9E37_79B9_7F4A_7C15);
-    }
-
-    fn finish(&self) -> u64 {
-        self.0
-    }
+/// The waiting gets of one pool.
+pub(crate) struct Waiters<C> {
+    /// By their index in the core's table of gets.
+    waiting: Vec<Option<Waiting>>,
+    count: usize,
+    /// By their number.
+    handed: HashMap<u64, Handed<C>>,
+    hands_off: bool,
 }
 
-/// The gets of one pool that wait.
-pub(crate) struct Waiters {
-    gets: HashMap<u64, Waiter, BuildHasherDefault<Spread>>,
-}
-
-impl Waiters {
-    /// For so many gets memory is kept when none is left.
+impl<C> Waiters<C> {
+    /// For so many gets memory is kept when none waits.
     const KEPT: usize = 64;
 
-    pub(crate) fn new() -> Self {
+    /// Memory for hand-offs is reserved only if the pool makes any.
+    pub(crate) fn new(hands_off: bool) -> Self {
         Waiters {
-            gets: HashMap::default(),
+            waiting: Vec::new(),
+            count: 0,
+            handed: HashMap::new(),
+            hands_off,
         }
     }
 
-    /// A get begins to wait, or waits on, and its waker is taken; false where memory is refused.
-    pub(crate) fn wait(&mut self, get: Name, since: u64, waker: &mut Option<Waker>) -> bool {
-        if self.gets.try_reserve(1).is_err() {
+    /// Makes a get wait that does not wait here yet, and takes its waker. Returns false if memory is
+    /// refused.
+    #[inline]
+    pub(crate) fn wait(&mut self, get: GetKey, since: u64, waker: &mut Option<Waker>) -> bool {
+        if (self.hands_off || get.place >= self.waiting.len()) && !self.make_room(get.place) {
             return false;
         }
-        let waits = Waiter::Waits(since, waker.take());
-        self.gets.insert(get.number, waits);
+        debug_assert!(self.waiting[get.place].is_none());
+        self.waiting[get.place] = Some(Waiting {
+            number: get.number,
+            since,
+            waker: waker.take(),
+        });
+        self.count += 1;
         true
     }
 
-    /// Takes what stands here for a get. A waker is to be dropped outside the lock: it may own a
-    /// task, and that a connection.
-    pub(crate) fn take(&mut self, get: Name) -> Option<Waiter> {
-        let taken = self.gets.remove(&get.number);
-        if self.gets.is_empty() && self.gets.capacity() > Self::KEPT {
-            self.gets = HashMap::default();
+    /// Reserves memory for a get at this index, and for the hand-off to it.
+    #[cold]
+    fn make_room(&mut self, index: usize) -> bool {
+        if self.hands_off && self.handed.try_reserve(self.count + 1).is_err() {
+            return false;
         }
-        taken
+        if index >= self.waiting.len() {
+            let missing = index + 1 - self.waiting.len();
+            if self.waiting.try_reserve(missing).is_err() {
+                return false;
+            }
+            self.waiting.resize_with(index + 1, || None);
+        }
+        true
     }
 
-    /// Takes the waker of a get that was notified, which is to try again.
-    pub(crate) fn notify(&mut self, get: Name) -> Option<Waker> {
-        match self.take(get)? {
-            Waiter::Waits(_, waker) => waker,
-            Waiter::Handed(_) => unreachable!("who was handed something waits no more"),
-        }
+    /// The entry of a get, if it waits.
+    fn entry(&mut self, get: GetKey) -> Option<&mut Option<Waiting>> {
+        let entry = self.waiting.get_mut(get.place)?;
+        let waits = entry.as_ref().is_some_and(|it| it.number == get.number);
+        waits.then_some(entry)
     }
 
-    /// Since when a get waits.
-    pub(crate) fn since(&self, get: Name) -> Option<u64> {
-        match self.gets.get(&get.number)? {
-            Waiter::Waits(since, _) => Some(*since),
-            Waiter::Handed(_) => None,
+    /// Removes a get, if it waits. Its waker has to be dropped outside of the lock: it may own a
+    /// task, and the task a connection.
+    #[inline]
+    pub(crate) fn remove(&mut self, get: GetKey) -> Option<Waker> {
+        let removed = self.entry(get)?.take();
+        self.count -= 1;
+        if self.count == 0 && self.waiting.capacity() > Self::KEPT {
+            self.waiting = Vec::new();
         }
+        removed?.waker
     }
 
-    /// Hands a connection to a get that waits, and takes its waker. No memory is asked for.
-    pub(crate) fn hand(&mut self, get: Name, handed: Handed) -> Option<Waker> {
-        let waiter = self.gets.get_mut(&get.number)?;
-        match mem::replace(waiter, Waiter::Handed(handed)) {
-            Waiter::Waits(_, waker) => waker,
-            Waiter::Handed(_) => unreachable!("nobody is handed two"),
+    /// Takes the connection that was handed to a get.
+    #[inline]
+    pub(crate) fn take_handed(&mut self, get: GetKey) -> Option<Handed<C>> {
+        if self.handed.is_empty() {
+            return None;
         }
+        self.handed.remove(&get.number)
     }
 
-    /// Takes the wakers of all gets that wait; none where memory for them is refused.
+    /// Takes the waker of a notified get, which is to try again.
+    pub(crate) fn notify(&mut self, get: GetKey) -> Option<Waker> {
+        self.entry(get)?.as_mut()?.waker.take()
+    }
+
+    /// Returns the moment since which a get waits.
+    pub(crate) fn since(&mut self, get: GetKey) -> Option<u64> {
+        Some(self.entry(get)?.as_ref()?.since)
+    }
+
+    /// Hands a connection to a waiting get, and takes its waker. The memory is reserved already.
+    pub(crate) fn hand_off(&mut self, get: GetKey, handed: Handed<C>) -> Option<Waker> {
+        self.handed.insert(get.number, handed);
+        self.remove(get)
+    }
+
+    /// Takes the wakers of all waiting gets, or none if memory for them is refused.
     pub(crate) fn wakers(&mut self) -> Vec<Waker> {
         let mut wakers = Vec::new();
-        if wakers.try_reserve(self.gets.len()).is_ok() {
-            wakers.extend(self.gets.values_mut().filter_map(|waiter| match waiter {
-                Waiter::Waits(_, waker) => waker.take(),
-                Waiter::Handed(_) => None,
-            }));
+        if wakers.try_reserve(self.count).is_ok() {
+            let waiting = self.waiting.iter_mut().flatten();
+            wakers.extend(waiting.filter_map(|it| it.waker.take()));
         }
         wakers
     }
 
-    /// For how many gets there is memory, for a test.
+    /// For how many waiting gets there is memory.
     #[cfg(test)]
     pub(crate) fn capacity(&self) -> usize {
-        self.gets.capacity()
+        self.waiting.capacity()
     }
 }

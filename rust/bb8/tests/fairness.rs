@@ -1,15 +1,14 @@
 //! Who is served where gets wait, by `fair_after`: clocks are paused, so each run is the same.
 
 use bb8::{ManageConnection, Pool, PooledConnection, RunError};
+use futures_util::task::noop_waker;
 use std::convert::Infallible;
 use std::future::Future;
-use std::mem::ManuallyDrop;
 use std::pin::Pin;
 use std::sync::atomic::{AtomicU32, Ordering::SeqCst};
-use std::sync::{Arc, Mutex};
-use std::task::{Context, Poll, RawWaker, RawWakerVTable, Wake, Waker};
+use std::task::{Context, Poll};
 use std::time::Duration;
-use tokio::time::{advance, sleep, Instant};
+use tokio::time::{sleep, Instant};
 
 const MILLISECOND: Duration = Duration::from_millis(1);
 const SECOND: Duration = Duration::from_secs(1);
@@ -86,58 +85,13 @@ async fn a_pool_that_is_not_fair_may_let_them_starve() {
     assert!(timed_out > 50, "{timed_out}");
 }
 
-type Hook = Box<dyn FnOnce() + Send>;
-
-/// A waker, each clone of which does the last of these things that is left.
-#[derive(Default)]
-struct Woken(Mutex<Vec<Hook>>);
-
-impl Woken {
-    fn cloned(&self) {
-        let hook = self.0.lock().unwrap().pop();
-        if let Some(hook) = hook {
-            hook();
-        }
-    }
-}
-
-impl Wake for Woken {
-    fn wake(self: Arc<Self>) {}
-}
-
-fn waker(woken: &Arc<Woken>) -> Waker {
-    static TABLE: RawWakerVTable = RawWakerVTable::new(
-        |data| {
-            // SAFETY: all wakers of this table own an `Arc<Woken>`, which is only looked at here.
-            let woken = unsafe { ManuallyDrop::new(Arc::from_raw(data.cast::<Woken>())) };
-            woken.cloned();
-            RawWaker::new(Arc::into_raw(Arc::clone(&woken)).cast(), &TABLE)
-        },
-        // SAFETY: as above, and this ends the waker, whose part this is.
-        |data| unsafe { Arc::from_raw(data.cast::<Woken>()) }.wake(),
-        // SAFETY: as above, and the waker keeps its part.
-        |data| unsafe { ManuallyDrop::new(Arc::from_raw(data.cast::<Woken>())) }.wake_by_ref(),
-        // SAFETY: as above, and this ends the waker, whose part this is.
-        |data| drop(unsafe { Arc::from_raw(data.cast::<Woken>()) }),
-    );
-    let data = Arc::into_raw(woken.clone()).cast();
-    // SAFETY: the functions of the table are those of an `Arc`, which any thread may call.
-    unsafe { Waker::from_raw(RawWaker::new(data, &TABLE)) }
-}
-
 /// A get that is polled by hand.
-struct Hand {
-    get: Pin<Box<dyn Future<Output = Got>>>,
-    woken: Arc<Woken>,
-}
+struct Hand(Pin<Box<dyn Future<Output = Got>>>);
 
 impl Hand {
     fn new(pool: &Pool<Numbers>) -> Self {
         let pool = pool.clone();
-        Hand {
-            get: Box::pin(async move { pool.get_owned().await }),
-            woken: Arc::default(),
-        }
+        Hand(Box::pin(async move { pool.get_owned().await }))
     }
 
     /// One that was polled, and waits.
@@ -148,33 +102,14 @@ impl Hand {
     }
 
     fn poll(&mut self) -> Option<Got> {
-        let waker = waker(&self.woken);
-        match self.get.as_mut().poll(&mut Context::from_waker(&waker)) {
+        match self
+            .0
+            .as_mut()
+            .poll(&mut Context::from_waker(&noop_waker()))
+        {
             Poll::Ready(got) => Some(got),
             Poll::Pending => None,
         }
-    }
-}
-
-#[tokio::test(start_paused = true)]
-async fn what_is_handed_at_the_deadline_is_served_or_comes_back() {
-    for check in [false, true] {
-        let pool = pool(1, check, Duration::ZERO).await;
-        let conn = pool.get_owned().await.unwrap();
-        let mut hand = Hand::waiting(&pool);
-        advance(SECOND).await;
-        // The get clones its waker before it looks for a connection, and its timer after that.
-        let hooks: [Hook; 2] = [Box::new(|| drop(conn)), Box::new(|| {})];
-        hand.woken.0.lock().unwrap().extend(hooks);
-        let got = hand.poll().expect("its time is over");
-        assert!(hand.woken.0.lock().unwrap().is_empty());
-        assert_eq!(got.is_ok(), !check);
-        drop(got);
-        let state = pool.state();
-        let figures = &state.statistics;
-        assert_eq!(figures.get_timed_out, u64::from(check));
-        assert_eq!(figures.get_waited, u64::from(!check));
-        assert_eq!((figures.pending_gets(), state.idle_connections), (0, 1));
     }
 }
 

@@ -344,12 +344,12 @@ async fn a_manager_that_panics_keeps_no_room() {
 async fn a_check_that_panics_keeps_no_room() {
     let checking_it = [Fault::CheckPanics];
     let sinking = [Fault::CheckFails, Fault::SinkPanics];
-    for (faults, left) in [(&checking_it[..], 1), (&sinking[..], 0)] {
+    for faults in [&checking_it[..], &sinking[..]] {
         let world = Arc::default();
         let pool = checking(&world).await;
         world.set(faults);
         assert!(!serves(&pool).await, "{faults:?}");
-        assert_eq!(counts(&pool, &world), (left, left), "{faults:?}");
+        assert_eq!(counts(&pool, &world), (0, 0), "{faults:?}");
         world.mend();
         assert!(serves(&pool).await, "{faults:?}");
         assert_eq!(pool.state().statistics.pending_gets(), 0, "{faults:?}");
@@ -357,7 +357,7 @@ async fn a_check_that_panics_keeps_no_room() {
 }
 
 #[tokio::test(start_paused = true)]
-async fn a_check_that_hangs_is_cut_off_and_says_nothing() {
+async fn a_check_that_hangs_is_cut_off_and_its_connection_closed() {
     let world = Arc::default();
     let pool = checking(&world).await;
     world.set(&[Fault::CheckHangs]);
@@ -366,10 +366,15 @@ async fn a_check_that_hangs_is_cut_off_and_says_nothing() {
     assert!(serves(&pool).await);
     assert_eq!(
         (counts(&pool, &world), world.dropped.load(SeqCst)),
-        ((1, 1), 0)
+        ((1, 1), 1)
     );
     let figures = pool.state().statistics;
     assert_eq!((figures.get_timed_out, figures.get_cancelled), (1, 0));
+    let closed = (
+        figures.connections_closed_broken,
+        figures.connections_closed_invalid,
+    );
+    assert_eq!((figures.checks_timed_out, closed), (1, (1, 0)));
 }
 
 #[tokio::test]

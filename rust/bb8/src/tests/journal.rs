@@ -1,74 +1,315 @@
-//! A journal of all steps of one core, in their order, with what each told.
+//! A core that notes each of its steps as an event with its answer, and the judge of the notes: the
+//! proved `replay`, which knows nothing of this crate.
 
-use crate::core::{Figures, Looked, Name, Settings, Told};
+use crate::core::*;
+use bb8_core::api::{Config, State};
+use bb8_core::internals::{LeaveAnswer, Looked, PoolInternals, Unfit};
+use bb8_core::kit::Global;
+use bb8_core::replay::{replay, Act, Answer, Event};
 
-/// A step, with its arguments.
-#[allow(non_camel_case_types, dead_code)] // what the shadow does not read is printed
-#[derive(Clone, Copy, Debug)]
-#[rustfmt::skip]
-pub(crate) enum Step {
-    serve_at_once { at: u64 },
-    get { at: u64 },
-    try_get { at: u64, get: Name },
-    checked_ok { at: u64, get: Name, hint: usize },
-    checked_err { at: u64, get: Name, conn: u64, broken: bool, hint: usize },
-    give_up { at: u64, get: Name, timed_out: bool },
-    give_up_held { at: u64, get: Name, timed_out: bool, conn: u64, broken: bool, hint: usize },
-    put_back { at: u64, key: Name, conn: u64, broken: bool },
-    fill { at: u64, claimed: bool },
-    claim { at: u64 },
-    opened { at: u64, approval: Name, conn: u64 },
-    failed { at: u64, approval: Name },
-    add { at: u64, conn: u64, broken: bool },
-    reap { at: u64 },
-    leave { at: u64 },
-    look { at: u64 },
-    state { at: u64 },
-    closed_next {},
+/// A core with a journal.
+pub(crate) struct Noted<C> {
+    core: PoolInternals<Held<C>>,
+    config: Config,
+    notes: Vec<(Event, Answer)>,
 }
 
-/// What a step told.
-#[derive(Clone, Copy, Debug, PartialEq, Eq)]
-pub(crate) enum Answer {
-    Told(Told),
-    Looked(Looked),
-    Shown(Figures),
+fn number(get: Option<GetKey>) -> Option<u64> {
+    get.map(|get| get.number)
 }
 
-macro_rules! answers {
-    ($($case:ident($type:ty);)*) => {
-        $(impl From<&$type> for Answer {
-            fn from(told: &$type) -> Self {
-                Answer::$case(*told)
-            }
-        })*
+fn of_try<C>(answer: &TryAnswer<C>) -> Answer {
+    match answer {
+        TryAnswer::Served(key, _, grant) => Answer::Served(key.number, *grant),
+        TryAnswer::Taken(key, _, grant) => Answer::Taken(key.number, *grant),
+        TryAnswer::Waiting(grant) => Answer::Waiting(*grant),
+    }
+}
+
+fn of_give_up<C>(answer: &GiveUpAnswer<C>) -> Answer {
+    match answer {
+        GiveUpAnswer::GaveUp(get) => Answer::GaveUp(number(*get)),
+        GiveUpAnswer::Kept(key, get) => Answer::Kept(key.number, number(*get)),
+        GiveUpAnswer::Closed(key, _, grant, get) => {
+            Answer::Closed(key.number, *grant, number(*get))
+        }
+    }
+}
+
+/// Where an empty grant begins is of no interest.
+fn plain(answer: Answer) -> Answer {
+    let plain = |mut grant: Grant| {
+        if grant.count == 0 {
+            grant.first = 0;
+        }
+        grant
     };
+    match answer {
+        Answer::Served(number, grant) => Answer::Served(number, plain(grant)),
+        Answer::Taken(number, grant) => Answer::Taken(number, plain(grant)),
+        Answer::Waiting(grant) => Answer::Waiting(plain(grant)),
+        Answer::Closed(number, grant, get) => Answer::Closed(number, plain(grant), get),
+        Answer::Granted(grant) => Answer::Granted(plain(grant)),
+        Answer::Reaped {
+            closed,
+            by_idle,
+            by_life,
+            grant,
+        } => Answer::Reaped {
+            closed,
+            by_idle,
+            by_life,
+            grant: plain(grant),
+        },
+        other => other,
+    }
 }
 
-answers! {
-    Told(Told);
-    Looked(Looked);
-    Shown(Figures);
+impl<C> Noted<C> {
+    /// Replays all events that were noted. Panics unless the answers are those that were noted.
+    /// Returns how many there are.
+    pub(crate) fn judge(&self) -> usize {
+        let events: Vec<Event> = self.notes.iter().map(|(event, _)| *event).collect();
+        let (answers, _) = replay(Global, self.config, &events).expect("there is memory");
+        assert_eq!(answers.len(), events.len());
+        for (number, ((event, noted), proved)) in self.notes.iter().zip(answers.iter()).enumerate()
+        {
+            assert_eq!(plain(*noted), plain(*proved), "event {number}, {event:?}");
+        }
+        events.len()
+    }
+
+    /// Makes the journal wrong: as if the last event had been answered otherwise.
+    pub(crate) fn falsify(&mut self) {
+        let (_, answer) = self.notes.last_mut().expect("something happened");
+        *answer = Answer::Unfit;
+    }
+
+    fn note(&mut self, at: Moment, act: Act, answer: Answer) {
+        self.notes.push((Event { at, act }, answer));
+    }
 }
 
-/// What a core was made with, and its steps.
-pub(crate) struct Journal {
-    pub(crate) settings: Settings,
-    pub(crate) notes: Vec<(Step, Answer)>,
-}
-
-impl Journal {
-    pub(crate) fn new(settings: Settings) -> Self {
-        Journal {
-            settings,
+/// The steps of the core, as `PoolInternals` has them.
+impl<C> Noted<C> {
+    pub(crate) fn new(alloc: Global, config: Config) -> Self {
+        Noted {
+            core: PoolInternals::new(alloc, config),
+            config,
             notes: Vec::new(),
         }
     }
 
-    pub(crate) fn note<'a, T>(&mut self, step: Step, told: &'a T)
-    where
-        Answer: From<&'a T>,
-    {
-        self.notes.push((step, Answer::from(told)));
+    pub(crate) fn idle(&self) -> u32 {
+        self.core.idle()
+    }
+
+    pub(crate) fn fits_join(&self) -> bool {
+        self.core.fits_join()
+    }
+
+    pub(crate) fn closed_by_leave(&self) -> u32 {
+        self.core.closed_by_leave()
+    }
+
+    pub(crate) fn serve_at_once(&mut self, at: Moment) -> Option<AtOnce<Held<C>>> {
+        let served = self.core.serve_at_once(at)?;
+        self.note(at, Act::Begin, Answer::Begun(served.get));
+        let answer = Answer::Served(served.key.number, served.grant);
+        self.note(at, Act::Try(served.get), answer);
+        Some(served)
+    }
+
+    pub(crate) fn start(&mut self, at: Moment) -> Result<Started<Held<C>>, Unfit> {
+        let started = self.core.start(at)?;
+        match &started {
+            Started::Tried(get, answer) => {
+                self.note(at, Act::Begin, Answer::Begun(get.number));
+                self.note(at, Act::Try(get.number), of_try(answer));
+            }
+            // The replay has memory, so there is nothing to compare with.
+            Started::Memory => {}
+            Started::Exhausted => self.note(at, Act::Begin, Answer::Exhausted),
+        }
+        Ok(started)
+    }
+
+    pub(crate) fn try_get(&mut self, at: Moment, get: GetKey) -> Result<TryAnswer<Held<C>>, Unfit> {
+        let answer = self.core.try_get(at, get)?;
+        self.note(at, Act::Try(get.number), of_try(&answer));
+        Ok(answer)
+    }
+
+    pub(crate) fn checked_ok(
+        &mut self,
+        at: Moment,
+        get: GetKey,
+        hint: usize,
+    ) -> Result<CheckedOkAnswer, Unfit> {
+        let answer = self.core.checked_ok(at, get, hint)?;
+        let CheckedOkAnswer::Served(key) = answer;
+        let grant = Grant {
+            first: 0,
+            count: 0,
+            withheld: 0,
+        };
+        let served = Answer::Served(key.number, grant);
+        self.note(at, Act::CheckedOk(get.number), served);
+        Ok(answer)
+    }
+
+    pub(crate) fn checked_err(
+        &mut self,
+        at: Moment,
+        get: GetKey,
+        conn: Held<C>,
+        broken: bool,
+        hint: usize,
+    ) -> Result<CheckedErrAnswer<Held<C>>, Held<C>> {
+        let answer = self.core.checked_err(at, get, conn, broken, hint)?;
+        let CheckedErrAnswer::Closed(key, _, grant, notified) = &answer;
+        let closed = Answer::Closed(key.number, *grant, number(*notified));
+        self.note(at, Act::CheckedErr(get.number, broken), closed);
+        Ok(answer)
+    }
+
+    pub(crate) fn give_up(
+        &mut self,
+        at: Moment,
+        get: GetKey,
+        reason: Reason,
+        broken: bool,
+    ) -> Result<GiveUpAnswer<Held<C>>, Unfit> {
+        let answer = self.core.give_up(at, get, reason, broken)?;
+        let act = Act::GiveUp(get.number, reason, broken);
+        self.note(at, act, of_give_up(&answer));
+        Ok(answer)
+    }
+
+    pub(crate) fn give_back(
+        &mut self,
+        at: Moment,
+        get: GetKey,
+        reason: Reason,
+        conn: Held<C>,
+        broken: bool,
+        hint: usize,
+    ) -> Result<GiveUpAnswer<Held<C>>, Held<C>> {
+        let answer = self.core.give_back(at, get, reason, conn, broken, hint)?;
+        let act = Act::GiveUp(get.number, reason, broken);
+        self.note(at, act, of_give_up(&answer));
+        Ok(answer)
+    }
+
+    pub(crate) fn put_back(
+        &mut self,
+        at: Moment,
+        key: Key,
+        conn: Held<C>,
+        broken: bool,
+    ) -> Result<PutBackAnswer<Held<C>>, Held<C>> {
+        let answer = self.core.put_back(at, key, conn, broken)?;
+        let noted = match &answer {
+            PutBackAnswer::Kept(get) => Answer::Kept(key.number, number(*get)),
+            PutBackAnswer::Closed(_, grant, get) => {
+                Answer::Closed(key.number, *grant, number(*get))
+            }
+        };
+        self.note(at, Act::PutBack(key.number, broken), noted);
+        Ok(answer)
+    }
+
+    pub(crate) fn fill(&mut self, at: Moment, claimed: bool) -> Grant {
+        let grant = self.core.fill(at, claimed);
+        self.note(at, Act::Fill(claimed), Answer::Granted(grant));
+        grant
+    }
+
+    pub(crate) fn claim(&mut self, at: Moment) -> ClaimAnswer {
+        let answer = self.core.claim(at);
+        let noted = match answer {
+            ClaimAnswer::Claimed(key) => Answer::Claimed(key.map(|key| key.number)),
+            ClaimAnswer::Ended => Answer::Ended,
+        };
+        self.note(at, Act::Claim, noted);
+        answer
+    }
+
+    pub(crate) fn opened(
+        &mut self,
+        at: Moment,
+        approval: Key,
+        conn: Held<C>,
+    ) -> Result<OpenedAnswer<Held<C>>, Held<C>> {
+        let answer = self.core.opened(at, approval, conn)?;
+        let noted = match &answer {
+            OpenedAnswer::Entered(get) => Answer::Entered(approval.number, number(*get)),
+            OpenedAnswer::Late(_) => Answer::Late(approval.number),
+        };
+        self.note(at, Act::Opened(approval.number), noted);
+        Ok(answer)
+    }
+
+    pub(crate) fn failed(&mut self, at: Moment, approval: Key) -> Result<(), Unfit> {
+        self.core.failed(at, approval)?;
+        self.note(at, Act::Failed(approval.number), Answer::GivenBack);
+        Ok(())
+    }
+
+    pub(crate) fn add(
+        &mut self,
+        at: Moment,
+        conn: Held<C>,
+        broken: bool,
+    ) -> Result<AddAnswer<Held<C>>, Held<C>> {
+        let answer = self.core.add(at, conn, broken)?;
+        let noted = match &answer {
+            AddAnswer::Added(key, get) => Answer::Added(key.number, number(*get)),
+            AddAnswer::Broken(_) => Answer::Broken,
+            AddAnswer::NoCapacity(_) => Answer::NoCapacity,
+            // As in `start`: the replay has memory.
+            AddAnswer::Withheld(_) => return Ok(answer),
+        };
+        self.note(at, Act::Add(broken), noted);
+        Ok(answer)
+    }
+
+    pub(crate) fn reap_into(&mut self, at: Moment, list: &mut ClosedList<Held<C>>) -> ReapAnswer {
+        let answer = self.core.reap_into(at, list);
+        let noted = match answer {
+            ReapAnswer::Reaped {
+                closed,
+                by_idle,
+                by_life,
+                grant,
+            } => Answer::Reaped {
+                closed,
+                by_idle,
+                by_life,
+                grant,
+            },
+            ReapAnswer::Ended => Answer::Ended,
+        };
+        self.note(at, Act::Reap, noted);
+        answer
+    }
+
+    pub(crate) fn leave_into(&mut self, at: Moment, list: &mut ClosedList<Held<C>>) -> LeaveAnswer {
+        let answer = self.core.leave_into(at, list);
+        let LeaveAnswer::Left(closed) = answer;
+        self.note(at, Act::Leave, Answer::Left(closed));
+        answer
+    }
+
+    pub(crate) fn look(&mut self, at: Moment) -> Looked {
+        let seen = self.core.look(at);
+        self.note(at, Act::Look, Answer::Looked(seen.moment, seen.alive));
+        seen
+    }
+
+    pub(crate) fn state(&mut self, at: Moment) -> State {
+        let state = self.core.state(at);
+        self.note(at, Act::State, Answer::Shown(state));
+        state
     }
 }

@@ -1,12 +1,9 @@
-//! Tests of the binding: its layout, its steps by worked rows, refused memory, and storms of tasks
-//! whose every step is compared with a shadow of the core.
+//! Tests of what is behind the public interface: refused memory, the order of waiting gets, and
+//! storms of tasks, each of whose steps is compared with the proved `replay`.
 
+mod boxed;
 pub(crate) mod journal;
-mod layout;
-pub(crate) mod memory;
 mod order;
-mod shadow;
-mod steps;
 mod storm;
 mod waiting;
 mod wanting;

@@ -1,8 +1,9 @@
 //! Who is served, where gets wait: whoever asks first, or, by `fair_after`, the one whose turn it
 //! is.
 
-use super::shadow;
+use crate::getting::Getting;
 use crate::{ManageConnection, Pool, PooledConnection, RunError};
+use futures_util::task::noop_waker;
 use std::future::Future;
 use std::pin::Pin;
 use std::sync::atomic::{AtomicU32, Ordering};
@@ -115,12 +116,12 @@ async fn pool_of(manager: Numbered, check: bool, fair_after: Option<Duration>) -
         .unwrap()
 }
 
-/// Every step is that of the shadow, and no get is left in the core.
+/// Every step is that of the replay, and no get is left in the core.
 fn assert_calm(pool: &Pool<Numbered>) {
     let state = pool.state();
     assert_eq!(state.statistics.pending_gets(), 0);
     assert_eq!((state.connections, state.idle_connections), (1, 1));
-    shadow::replay(&pool.inner.locked().core.journal);
+    pool.inner.locked().core.judge();
 }
 
 #[tokio::test]
@@ -197,6 +198,28 @@ async fn what_was_handed_in_time_is_served_after_it() {
         // The wait ends with the hand-over, or with the check that it leads to.
         let due = [waited, after].map(|span| span.as_millis());
         assert_eq!(due, if check { [0, 1800] } else { [900, 900] });
+        assert_calm(&pool);
+    }
+}
+
+#[tokio::test(start_paused = true)]
+async fn a_connection_handed_off_at_the_deadline_is_served_or_returned() {
+    for check in [false, true] {
+        let pool = pool(check, Some(Duration::ZERO)).await;
+        let conn = pool.get().await.unwrap();
+        let mut getting = Getting::new(pool.inner.shared());
+        assert!(getting.begin(&mut Some(noop_waker())).is_none());
+        // Between its last try and its timeout the get is handed the connection.
+        drop(conn);
+        let got = getting.time_out();
+        assert_eq!(got.is_ok(), !check);
+        if let Ok(checkout) = got {
+            pool.inner.put_back(checkout);
+        }
+        let state = pool.state().statistics;
+        let counts = (state.get_waited, state.get_timed_out);
+        assert_eq!(counts, if check { (0, 1) } else { (1, 0) });
+        drop(getting);
         assert_calm(&pool);
     }
 }

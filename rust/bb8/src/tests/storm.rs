@@ -1,7 +1,6 @@
 //! Storms: many tasks get, cancel, time out, break, fail checks, add and reap. Afterwards nothing
-//! is lost, and every step told what the shadow says.
+//! is lost, and every step was answered as the proved `replay` answers it.
 
-use super::shadow;
 use crate::{ManageConnection, Pool, QueueStrategy, State};
 use std::sync::atomic::{AtomicU32, AtomicU64, Ordering};
 use std::sync::Arc;
@@ -177,11 +176,15 @@ async fn storm(weather: Weather) {
         ages[1] + u64::from(weather.fair_after.is_some()),
     ];
     println!("{weather:?}: {state:?}");
+    let opened = seen.connections_created + seen.connections_added;
+    let ended = seen.connections_closed + u64::from(state.connections);
+    assert_eq!(opened, ended);
+    assert!(seen.connections_failed > 0 && seen.connections_added > 0);
     assert!(counts.iter().all(|count| *count > 0), "{counts:?}");
     let inner = pool.inner.clone();
     drop(pool);
-    let steps = shadow::replay(&inner.locked().core.journal);
-    println!("{steps} steps are those of the shadow");
+    let steps = inner.locked().core.judge();
+    println!("{steps} steps are those of the replay");
     assert!(steps as u64 > weather.tasks * weather.rounds);
     drop(inner);
     for _ in 0..5000 {

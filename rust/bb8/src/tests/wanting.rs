@@ -1,8 +1,7 @@
 //! Want of memory is an answer.
 
-use super::memory::granting;
-use super::shadow;
 use crate::{AddError, ManageConnection, Pool, RunError};
+use bb8_core::kit::refusals::granting;
 use futures_util::FutureExt;
 use std::convert::Infallible;
 use std::sync::atomic::{AtomicU32, Ordering};
@@ -122,7 +121,7 @@ fn nothing_is_lost_whichever_request_is_refused() {
 }
 
 #[tokio::test(start_paused = true)]
-async fn a_shadow_follows_a_pool_that_lends_two() {
+async fn the_replay_follows_a_pool_with_two_checked_out() {
     let open = Arc::new(AtomicU32::new(0));
     let pool = Pool::builder()
         .max_size(2)
@@ -132,6 +131,16 @@ async fn a_shadow_follows_a_pool_that_lends_two() {
     let first = pool.get().await.unwrap();
     let second = pool.get().await.unwrap();
     drop((first, second));
-    let locked = pool.inner.locked();
-    assert!(shadow::replay(&locked.core.journal) > 8);
+    assert!(pool.inner.locked().core.judge() > 8);
+}
+
+#[tokio::test(start_paused = true)]
+#[should_panic(expected = "Event { at: ")]
+async fn the_judge_sees_a_wrong_answer() {
+    let open = Arc::new(AtomicU32::new(0));
+    let pool = Pool::builder().build(Counting(open)).await.unwrap();
+    drop(pool.get().await.unwrap());
+    let mut locked = pool.inner.locked();
+    locked.core.falsify();
+    locked.core.judge();
 }

@@ -1,5 +1,0 @@
-mod Values
-mod AsBox
-mod Inside
-mod Listed
-mod Words

@@ -1,0 +1,80 @@
+//! Connections on the heap, in boxes for which memory can be refused.
+//!
+//! The core moves a connection at each step that checks it out or returns it. In a box it is moved
+//! by its address, so that a pair of `get` and return costs the same whatever its size.
+
+use std::marker::PhantomData;
+use std::ops::{Deref, DerefMut};
+#[cfg(feature = "tracing")]
+use std::time::Duration;
+#[cfg(feature = "tracing")]
+use tokio::time::Instant;
+
+/// A connection, and for events when it was opened.
+struct Stored<C> {
+    conn: C,
+    #[cfg(feature = "tracing")]
+    opened: Instant,
+}
+
+/// Memory for one connection, reserved before the connection is opened.
+pub(crate) struct Reserved<C>(Vec<Stored<C>>);
+
+impl<C> Reserved<C> {
+    /// Returns `None` if memory is refused.
+    pub(crate) fn new() -> Option<Self> {
+        #[cfg(test)]
+        if bb8_core::kit::refusals::is_refused() {
+            return None;
+        }
+        let mut memory = Vec::new();
+        memory.try_reserve_exact(1).ok()?;
+        Some(Reserved(memory))
+    }
+
+    /// Moves the connection into the reserved memory.
+    pub(crate) fn fill(mut self, conn: C) -> Boxed<C> {
+        self.0.push(Stored {
+            conn,
+            #[cfg(feature = "tracing")]
+            opened: Instant::now(),
+        });
+        match self.0.try_into() {
+            Ok(boxed) => Boxed(boxed, PhantomData),
+            Err(_) => unreachable!("one connection was pushed"),
+        }
+    }
+}
+
+/// A connection on the heap. It is `Unpin` only if the connection is, as bb8's guards are.
+pub(crate) struct Boxed<C>(Box<[Stored<C>; 1]>, PhantomData<C>);
+
+impl<C> Boxed<C> {
+    /// Moves the connection out.
+    pub(crate) fn into_inner(self) -> C {
+        let [stored] = *self.0;
+        stored.conn
+    }
+
+    /// Returns how long ago it was opened.
+    #[cfg(feature = "tracing")]
+    pub(crate) fn age(&self) -> Duration {
+        self.0[0].opened.elapsed()
+    }
+}
+
+impl<C> Deref for Boxed<C> {
+    type Target = C;
+
+    #[inline]
+    fn deref(&self) -> &C {
+        &self.0[0].conn
+    }
+}
+
+impl<C> DerefMut for Boxed<C> {
+    #[inline]
+    fn deref_mut(&mut self) -> &mut C {
+        &mut self.0[0].conn
+    }
+}

@@ -1,0 +1,167 @@
+//! What a pool reports by `tracing`.
+
+use bb8::{ManageConnection, Pool};
+use std::fmt::{Debug, Write};
+use std::sync::atomic::{AtomicU32, Ordering::SeqCst};
+use std::sync::{Arc, Mutex};
+use std::time::Duration;
+use tokio::time::{advance, sleep};
+use tracing::field::{Field, Visit};
+use tracing::span::{Attributes, Id, Record};
+use tracing::{Event, Metadata, Subscriber};
+
+/// Keeps all events, each as its level and its fields.
+#[derive(Clone, Default)]
+struct Log(Arc<Mutex<Vec<String>>>);
+
+struct Line(String);
+
+impl Visit for Line {
+    fn record_debug(&mut self, field: &Field, value: &dyn Debug) {
+        write!(self.0, " {}={value:?}", field.name()).unwrap();
+    }
+}
+
+impl Subscriber for Log {
+    fn enabled(&self, metadata: &Metadata<'_>) -> bool {
+        metadata.target().starts_with("bb8")
+    }
+
+    fn new_span(&self, _: &Attributes<'_>) -> Id {
+        Id::from_u64(1)
+    }
+
+    fn record(&self, _: &Id, _: &Record<'_>) {}
+
+    fn record_follows_from(&self, _: &Id, _: &Id) {}
+
+    fn event(&self, event: &Event<'_>) {
+        let mut line = Line(event.metadata().level().to_string());
+        event.record(&mut line);
+        self.0.lock().unwrap().push(line.0);
+    }
+
+    fn enter(&self, _: &Id) {}
+
+    fn exit(&self, _: &Id) {}
+}
+
+impl Log {
+    fn take(&self) -> Vec<String> {
+        std::mem::take(&mut self.0.lock().unwrap())
+    }
+}
+
+#[derive(Debug)]
+struct Refused;
+
+/// So many attempts, checks and returns fail next.
+#[derive(Default)]
+struct Faults {
+    attempts: AtomicU32,
+    checks: AtomicU32,
+    broken: AtomicU32,
+}
+
+fn fails(left: &AtomicU32) -> bool {
+    let less = |left: u32| left.checked_sub(1);
+    left.fetch_update(SeqCst, SeqCst, less).is_ok()
+}
+
+struct Manager(Arc<Faults>);
+
+impl ManageConnection for Manager {
+    type Connection = ();
+    type Error = Refused;
+
+    async fn connect(&self) -> Result<(), Refused> {
+        if fails(&self.0.attempts) {
+            return Err(Refused);
+        }
+        Ok(())
+    }
+
+    async fn is_valid(&self, _: &mut ()) -> Result<(), Refused> {
+        if fails(&self.0.checks) {
+            return Err(Refused);
+        }
+        Ok(())
+    }
+
+    fn has_broken(&self, _: &mut ()) -> bool {
+        fails(&self.0.broken)
+    }
+}
+
+#[tokio::test(start_paused = true)]
+async fn each_failure_and_each_closing_is_reported_with_its_cause() {
+    let log = Log::default();
+    let _subscribed = tracing::subscriber::set_default(log.clone());
+    let faults: Arc<Faults> = Arc::default();
+    let pool = Pool::builder()
+        .name("orders")
+        .max_size(1)
+        .idle_timeout(Duration::from_secs(60))
+        .reaper_rate(Duration::from_secs(1))
+        .build(Manager(faults.clone()))
+        .await
+        .unwrap();
+
+    faults.attempts.store(1, SeqCst);
+    drop(pool.get().await.unwrap());
+    assert_eq!(
+        log.take(),
+        [
+            r#"WARN message=connection attempt failed pool="orders" error=Refused"#,
+            r#"DEBUG message=connection opened pool="orders""#,
+        ]
+    );
+
+    faults.checks.store(1, SeqCst);
+    advance(Duration::from_secs(5)).await;
+    drop(pool.get().await.unwrap());
+    assert_eq!(
+        log.take(),
+        [
+            r#"WARN message=check of a connection failed pool="orders" error=Refused"#,
+            r#"DEBUG message=connection closed pool="orders" reason="its check failed" age=5s"#,
+            r#"DEBUG message=connection opened pool="orders""#,
+        ]
+    );
+
+    faults.broken.store(1, SeqCst);
+    drop(pool.get().await.unwrap());
+    assert_eq!(
+        log.take(),
+        [r#"WARN message=broken connection closed pool="orders" age=0ns"#]
+    );
+
+    drop(pool.get().await.unwrap());
+    sleep(Duration::from_secs(65)).await;
+    let lines = log.take();
+    assert!(lines[1].contains(r#"reason="idle_timeout""#), "{lines:?}");
+}
+
+#[tokio::test(start_paused = true)]
+async fn a_slow_get_is_reported_with_the_state_of_the_pool() {
+    let log = Log::default();
+    let _subscribed = tracing::subscriber::set_default(log.clone());
+    let builder = Pool::builder().max_size(1).min_idle(1);
+    let pool = builder.build(Manager(Arc::default())).await.unwrap();
+    for (held, is_slow) in [(1, false), (3, true)] {
+        let conn = pool.get().await.unwrap();
+        let get = async { drop(pool.get().await.unwrap()) };
+        let hold = async {
+            sleep(Duration::from_secs(held)).await;
+            drop(conn);
+        };
+        log.take();
+        tokio::join!(get, hold);
+        let lines = log.take();
+        assert_eq!(lines.len(), usize::from(is_slow), "{lines:?}");
+        if is_slow {
+            assert!(lines[0].starts_with("WARN message=get was slow pool=\"bb8\" took=3"));
+            assert!(lines[0].contains("get_waited: 2"), "{lines:?}");
+        }
+    }
+}
