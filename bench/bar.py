@@ -1,11 +1,15 @@
 #!/usr/bin/env python3
-"""Counts the instructions of the core and the live pool again, and says which rose above the kept figures, bench/figures.txt.
+"""Counts the instructions of the core, the live pool and the Rust crate again, and names the counts
+that rose above bench/figures.txt.
 
     bench/bar.py [--built]
 
-With --built it takes what an earlier run built, `rt ci` among them. It ends with 1 where one rose. Where the kit, cargo or valgrind is not at
-hand it says so in a line, and that is no failure; nor is a count above one of another kit or processor. A count does not differ from run to run;
-what fell is told too, so that `bench/compare.py instructions` keeps it.
+It builds the core and the crate with cargo, and the live pool with the kit; with --built it takes
+the live pool's program as an earlier run built it, `rt ci` for example. It exits with 1 if a count
+rose. Exception: a rise is no failure if the kept figure is of another processor, rustc (of the live
+pool: another kit) or tokio, as a count depends on them. If valgrind, cargo or the kit is missing it
+says so in a line, and that is no failure. Counts do not differ from run to run. Those that fell are
+named, too: `bench/compare.py instructions` keeps them.
 """
 import shutil
 import sys
@@ -13,37 +17,52 @@ import sys
 import figures
 import measures
 import programs
-from measures import CORE_OF, LIVE_OF
+from measures import CORE_OF, CRATE_OF, LIVE_OF
+
+
+def built(is_live_there):
+    """The pools whose programs are there."""
+    live = programs.is_live_there() if is_live_there else programs.is_live_built()
+    there = ((CORE_OF, programs.is_core_built()), (LIVE_OF, live), (CRATE_OF, bool(programs.build_pools(None, ("crate",)))))
+    return [whose for whose, is_there in there if is_there]
+
+
+def depends_on(whose):
+    """What a pool's counts depend on, as the notes of the figures name it."""
+    tools = [programs.version(programs.KIT if whose == LIVE_OF else programs.RUSTC)]
+    tools += [name for name in programs.dependencies() if whose == CRATE_OF and name.startswith("tokio ")]
+    return [*tools, programs.machine().rpartition(",")[0]]
+
+
+def others(part, whose):
+    """What the kept figures of a pool are not of, of all that its counts depend on."""
+    notes = " ".join(figures.notes_of(part, whose))
+    return [name for name in depends_on(whose) if name not in notes]
 
 
 def main():
     parts = figures.read()
-    kept, notes = figures.table(parts, "instructions"), " ".join(parts["instructions"][0])
     if shutil.which("valgrind") is None:
         programs.lacks("instructions (no valgrind)")
         return 0
-    if sys.argv[1:] == ["--built"]:
-        core, live, _ = programs.standing()
-    else:
-        core, live = programs.is_core_built(), programs.is_live_built()
-    have = [whose for whose, is_there in ((CORE_OF, core), (LIVE_OF, live)) if is_there]
-    rose = 0
-    for what, whose, figure in measures.counted(measures.own_counts(have)):
+    kept, rose = figures.table(parts, "instructions"), {}
+    for what, whose, figure in measures.counted(measures.counts(built(sys.argv[1:] == ["--built"]))):
         if (what, whose) not in kept:
             print(f"{whose}, {what}: {figure}, of which no figure is kept")
             continue
         before = int(kept[(what, whose)][0])
         change = "as kept" if figure == before else f"{'ROSE' if figure > before else 'fell'} from {before}"
         print(f"{whose}, {what}: {figure}, {change}", flush=True)
-        rose += figure > before
-    if not have:
-        programs.lacks("instructions (no program stands built)")
-    print(f"bench/bar.py: {rose} rose" if rose else "bench/bar.py: none rose")
-    kit, processor = (programs.ran(["rt", "version"]) or "").strip(), programs.machine().rpartition(",")[0]
-    if rose and not (kit in notes and processor in notes):
-        print(f"bench/bar.py: no failure, as the figures are not of {kit} on {processor}")
-        return 0
-    return 1 if rose else 0
+        if figure > before:
+            rose[whose] = rose.get(whose, 0) + 1
+    failed = 0
+    for whose, count in rose.items():
+        other = others(parts["instructions"], whose)
+        failed += not other
+        print(f"bench/bar.py: {count} of the {whose} rose" + (f", no failure, as the kept figures are not of {', '.join(other)}" if other else ""))
+    if not rose:
+        print("bench/bar.py: none rose")
+    return 1 if failed else 0
 
 
 if __name__ == "__main__":

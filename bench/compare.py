@@ -1,16 +1,19 @@
 #!/usr/bin/env python3
-"""Measures the core and the live pool beside the original, r2d2, and the Rust crate over the core, and keeps the figures.
+"""Measures the core, the live pool and the Rust crate, and beside them the original and r2d2, and
+keeps the figures.
 
     bench/compare.py [--original FOLDER] [--built] [instructions] [bytes] [times] [wakes] [shares] [loads]
 
-Without a part it measures all six. With --built it takes what an earlier run built; else it builds what is to be had, and says in a line what is not: the core and the live pool by the kit,
-r2d2 and the original where cargo finds them; the original's crate may also lie in FOLDER. The figures go to bench/figures.txt, and the
-pictures in docs/ are drawn of them.
+Without a part it measures all six. It builds the programs first: the core and the pools for Rust
+with cargo, the live pool with the kit. With --built it takes the live pool's program as an earlier
+run built it. FOLDER holds the original's crate; without it cargo's registry is asked, and then the
+copy of an earlier run is taken. A program that cannot be built here is named in a line, and its
+figures are kept as they were. The figures are written to bench/figures.txt, and from them the
+pictures in docs/ and the tables in bench/README.md.
 """
 import argparse
 import datetime
 import os
-import re
 import shutil
 import statistics
 import subprocess
@@ -30,7 +33,8 @@ ROUNDS = 4_000_000
 CROWDS = (10_000, 25_000, 50_000, 100_000)
 # rounds of each of two threads that wake each other
 WAKES = "500"
-# 32 tasks share four connections: whose these are, of which pool and by which mode, and for how many milliseconds
+# 32 tasks share four connections: whose figures these are, of which pool and by which mode, and for
+# how many milliseconds
 SHARING = ((CRATE_OF, CRATE_OF, "tasks"), (FAIR_OF, CRATE_OF, "fair-tasks"), (ORIGINAL_OF, ORIGINAL_OF, "tasks"))
 LONG, SHORT = "3000", "300"
 
@@ -40,12 +44,8 @@ def taken():
     now = datetime.datetime.now(datetime.timezone.utc).strftime("%Y-%m-%d %H:%M UTC")
     commit = (programs.ran(["git", "rev-parse", "--short", "HEAD"]) or "unknown").strip()
     changed = programs.ran(["git", "status", "--porcelain", "--", "../bench", "../crates", "../rust", ":!figures.txt"])
-    tools = [(programs.ran(words) or "").strip() for words in (["rustc", "--version"], ["valgrind", "--version"], ["rt", "version"])]
-    crates = []
-    if os.path.exists(os.path.join(programs.WORK, "Cargo.lock")):
-        with open(os.path.join(programs.WORK, "Cargo.lock"), encoding="utf-8") as told:
-            crates = re.findall(r'name = "(tokio|r2d2)"\nversion = "([^"]*)"', told.read())
-    of = [f"{name} {version}" for name, version in crates] + [f"the original {programs.VERSION}"]
+    tools = [programs.version(words) for words in (programs.RUSTC, programs.VALGRIND, programs.KIT)]
+    of = [*programs.dependencies(), f"the original {programs.VERSION}"]
     return [f"Taken {now} at commit {commit}{' with changes' if changed else ''}, on {programs.machine()}.",
             f"By {', '.join(tool for tool in tools if tool)}; {', '.join(of)}."]
 
@@ -55,7 +55,8 @@ def load():
 
 
 def runs(have):
-    """The runs that are timed: what, whose, the run with `{}` for its number, that number, and by how many its time is divided."""
+    """The runs that are timed: what, whose, the run with `{}` for its number, that number, and the
+    divisor of its time."""
     if CORE_OF in have:
         for size in measures.SIZES:
             yield measures.round_of(size), CORE_OF, [programs.CORE, "rounds", str(size), "{}"], ROUNDS, ROUNDS
@@ -77,7 +78,8 @@ def runs(have):
 
 
 def times(have):
-    """The times: each run is made once in each turn, beside the others, and the least that a run of nothing takes is taken off."""
+    """The times: each run is made once in each turn, beside the others, and the least that a run of
+    nothing takes is taken off."""
     wanted = list(runs(have))
     told = {(what, whose): ([], []) for what, whose, *_ in wanted}
     for _ in range(REPETITIONS):
@@ -94,8 +96,9 @@ def times(have):
 
 
 def wakes(have):
-    """How long after a return a get that sleeps is answered: the least median of runs that take turns, with its 95th percentile."""
-    runs = {LIVE_OF: [programs.LIVE, "wake", WAKES], R2D2_OF: [programs.BESIDE, "r2d2", "wake", WAKES, "1"]}
+    """How long after a return a get that sleeps returns: the least median of runs that take turns,
+    with its 95th percentile."""
+    runs = {LIVE_OF: [programs.LIVE, "wake", WAKES], R2D2_OF: [programs.beside("r2d2"), "wake", WAKES, "1"]}
     told = {whose: [] for whose in runs if whose in have}
     for _ in range(REPETITIONS):
         for whose, all_of in told.items():
@@ -105,10 +108,11 @@ def wakes(have):
 
 
 def shared(have, held, long):
-    """How 32 tasks share four connections, which each has for such a while: whose, how many gets time out, and the rounds of each."""
+    """How 32 tasks share four connections, which each holds for such a while: whose, how many gets
+    time out, and the rounds of each."""
     for whose, of, mode in SHARING:
         if of in have:
-            late, *rounds = programs.ran([programs.BESIDE, POOLS[of], f"{mode}-{held}", long, "4", "32"]).split()
+            late, *rounds = programs.ran([programs.beside(POOLS[of]), f"{mode}-{held}", long, "4", "32"]).split()
             yield whose, late, list(map(int, rounds))
 
 
@@ -135,12 +139,12 @@ def measured(part, have):
     before, notes = load(), taken()
     if part == "instructions":
         rows = [["what", "whose", "instructions"]]
-        rows += [[what, whose, str(figure)] for what, whose, figure in measures.counted([*measures.own_counts(have), *measures.other_counts(have)])]
+        rows += [[what, whose, str(figure)] for what, whose, figure in measures.counted(measures.counts(have))]
         return notes, rows
     if part == "bytes":
         return notes, [["what", "whose", "bytes"], *map(list, measures.heaps(have))]
     rows = {"times": times, "wakes": wakes, "shares": shares, "loads": loads}[part](have)
-    notes.append(f"Of {'one run' if part == 'shares' else f'{REPETITIONS} interleaved runs'} each. The machine's load was {before} before (1, 5 and 15 minutes) and {load()} after: where it is "
+    notes.append(f"Of {'one run' if part == 'shares' else f'{REPETITIONS} interleaved runs'} each. The machine's load was {before} before (1, 5 and 15 minutes) and {load()} after: if it is "
                  "not near 0, other work ran beside them.")
     return notes, rows
 
@@ -149,16 +153,14 @@ def main():
     asked = argparse.ArgumentParser(description="Measures the pools and keeps the figures.")
     asked.add_argument("parts", nargs="*", metavar="PART", help=", ".join(PARTS))
     asked.add_argument("--original", metavar="FOLDER", default=os.environ.get("ORIGINAL"), help="the original's crate")
-    asked.add_argument("--built", action="store_true", help="builds nothing, and takes what stands built")
+    asked.add_argument("--built", action="store_true", help="takes the live pool's program as an earlier run built it")
     asked = asked.parse_args()
     parts = asked.parts or PARTS
     if not set(parts) <= set(PARTS):
         sys.exit(f"the parts are {', '.join(PARTS)}")
-    if asked.built:
-        core, live, pools = programs.standing()
-    else:
-        core, live, pools = programs.is_core_built(), programs.is_live_built(), programs.beside(asked.original)
-    have = [whose for whose, is_there in ((CORE_OF, core), (LIVE_OF, live)) if is_there]
+    live = programs.is_live_there() if asked.built else programs.is_live_built()
+    have = [whose for whose, is_there in ((CORE_OF, programs.is_core_built()), (LIVE_OF, live)) if is_there]
+    pools = programs.build_pools(asked.original)
     have += [whose for whose, name in POOLS.items() if name in pools]
     kept = figures.read()
     for part in parts:
@@ -166,7 +168,7 @@ def main():
             programs.lacks(f"{part} (no valgrind)")
         elif have:
             print(f"{part}: {', '.join(have)}", flush=True)
-            kept[part] = measured(part, have)
+            kept[part] = figures.merged(kept.get(part, ([], [])), measured(part, have), have)
     if kept:
         figures.write({part: kept[part] for part in PARTS if part in kept})
         draw.write()

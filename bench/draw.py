@@ -1,5 +1,6 @@
 #!/usr/bin/env python3
-"""Draws the kept figures, bench/figures.txt, as docs/*.svg, and writes them into the tables of bench/README.md.
+"""Draws the kept figures, bench/figures.txt, as docs/*.svg, and writes them into the tables of
+bench/README.md.
 
     bench/draw.py            draws and writes them
     bench/draw.py --check    says which picture or page is not of the kept figures; nothing is written
@@ -78,7 +79,8 @@ def apart(places):
 
 
 def lines(title, below, across, up, marks, drawn):
-    """Lines over marks, which are places from 0 to 1 with their names; each line is whose, and a figure for each mark."""
+    """Lines over marks, which are places from 0 to 1 with their names; each line is whose, and a
+    figure for each mark."""
     marks_up = steps(max(figure for each in drawn.values() for figure in each))
     foot, wide = TOP_OF + TALL, WIDTH - LEFT - RIGHT
     parts = [text(16, TOP_OF - 12, up, "s")]
@@ -115,7 +117,7 @@ def pair(parts):
     counts = figures.table(parts, "instructions")
     groups = [(words, [(whose, float(counts[(what, whose)][0])) for whose in POOLS if (what, whose) in counts])
               for what, words in (("a pair, check off", "Connections go out unchecked"),
-                                  ("a pair, check on", "Default settings: each is checked first, by a check that is ready at once (of r2d2 a plain call)"))]
+                                  ("a pair, default settings", "Default settings: each is checked first, by a check that is ready at once (of r2d2 a plain call)"))]
     groups = [group for group in groups if group[1]]
     return groups and bars("A get and its return, in instructions", "One thread, counted by callgrind; less is better", groups)
 
@@ -129,7 +131,8 @@ def crowd(parts):
     table = figures.table(parts, "times")
     sizes = sized(table, "a crowd of ")
     drawn = drawn_of(table, [f"a crowd of {size:,}" for size in sizes], (CORE_OF, LIVE_OF, CRATE_OF, ORIGINAL_OF), lambda one: one / 1e6)
-    # the core and the live pool stand in one picture here: the core is left out where both were measured
+    # the core and the live pool stand in one picture here: the core is left out where both were
+    # measured
     drawn = {whose: each for whose, each in drawn.items() if whose != CORE_OF or LIVE_OF not in drawn}
     return drawn and lines("A crowd that waits for one connection", "All wait and are served one by one, polled by hand in one thread; the best of nine runs; less is better",
                            "gets that wait", "milliseconds for all of them", [(size / sizes[-1], f"{size:,}") for size in sizes], drawn)

@@ -6,21 +6,28 @@ import subprocess
 import tempfile
 import time
 
-from programs import BESIDE, CORE, LIVE
+import programs
+from programs import CORE, LIVE, WIDTHS
 
 # whose figures stand beside each other
 CORE_OF, LIVE_OF, CRATE_OF, ORIGINAL_OF, R2D2_OF = "core", "live pool", "Rust crate", "original", "r2d2"
 ORIGINAL_CORE, FREE_CORE = "original's core", "original's core, no limits on ages"
 FAIR_OF = "Rust crate, fair after 1 ms"
-# the pools that `beside` has, by its own names for them
+# the pools for Rust, by the names of their programs
 POOLS = {CRATE_OF: "crate", ORIGINAL_OF: "original", R2D2_OF: "r2d2"}
 SIZES = (1, 10, 1_000, 100_000)
+# which pool each of the others is a part of
+PART_OF = {ORIGINAL_CORE: ORIGINAL_OF, FREE_CORE: ORIGINAL_OF, FAIR_OF: CRATE_OF}
 FEW, MANY = 1_000, 11_000
+# gets that wait: of the lesser run and of the greater one, if all wait at once, and if they wait in
+# batches of 16
+CROWD, BATCHES = (12_500, 25_000), (3_200, 16_000)
+SERVED, CANCELLED = "a waiting get, served", "a waiting get, cancelled"
 # threads that share a pool: how many, and its size
 THREADS = ((1, 16), (2, 16), (4, 16), (8, 16), (4, 4))
-# what a task does while it has a connection, by the modes of `beside`
+# how a task holds a connection, by the modes of `beside`
 HELD = ("nothing", "yield", "compute", "sleep")
-# what one run of the profiler is allowed
+# seconds that one run of the profiler may take
 LIMIT = 600
 
 
@@ -28,13 +35,19 @@ def round_of(size):
     return f"a round, {size:,} connection{'' if size == 1 else 's'}"
 
 
-def pair_of(threads, size, is_checked):
-    """A pair in so many threads: by default settings, or with the check off."""
-    return f"a pair, {'default settings' if is_checked else 'check off'}, {threads} thread{'' if threads == 1 else 's'}, pool of {size}"
+def pair_of(threads, size, is_default):
+    """A pair in so many threads: with the default settings, or with the check off."""
+    return f"{settings_of(is_default)}, {threads} thread{'' if threads == 1 else 's'}, pool of {size}"
+
+
+def settings_of(is_default, wide=8):
+    """A pair with the default settings, or with the check off, over connections of so many
+    bytes."""
+    return f"a pair, {'default settings' if is_default else 'check off'}{'' if wide == 8 else f', {wide} bytes'}"
 
 
 def profiled(tool, words, *more):
-    """What valgrind tells of a run."""
+    """What valgrind prints about a run."""
     done = subprocess.run(["valgrind", f"--tool={tool}", *more, *words], capture_output=True, text=True, timeout=LIMIT, check=True)
     return done.stderr
 
@@ -45,7 +58,9 @@ def instructions(words):
 
 
 def between(words, few, many):
-    """The instructions of a round: what the greater run takes beyond the smaller, for each round that it makes more. `{}` stands for the number."""
+    """The instructions of a round: by how many a run of `many` rounds exceeds a run of `few`,
+    divided by the difference of the rounds. `{}` in the words is replaced by the number of
+    rounds."""
     def run(number):
         return instructions([word.format(number) for word in words])
     return round((run(many) - run(few)) / (many - few))
@@ -55,46 +70,49 @@ def live(mode, size):
     return [LIVE, mode, "{}", str(size)]
 
 
-def beside(whose, mode, size):
-    return [BESIDE, POOLS[whose], mode, "{}", str(size)]
+def beside(whose, mode, size, wide=8):
+    return [programs.beside(POOLS[whose], wide), mode, "{}", str(size)]
 
 
-def own_counts(have):
-    """The counts of the proved programs: what, whose, its run, the numbers of rounds, and what else is taken off, as a run and how often."""
+def counts(have):
+    """What is counted of these pools: what, whose, its run, the numbers of rounds of both runs, and
+    what is subtracted, as a run and how often."""
     if CORE_OF in have:
         for size in SIZES:
             yield round_of(size), CORE_OF, [CORE, "rounds", str(size), "{}"], FEW, MANY, None
         yield "the floor: lock, pop, unlock, lock, push, unlock", CORE_OF, [CORE, "floor", "{}"], FEW, MANY, None
-        yield "a waiting get, served", CORE_OF, [CORE, "crowd", "{}"], 12_500, 25_000, None
-        yield "the letting go of one that waits", CORE_OF, [CORE, "give-ups", "100000", "45000", "{}"], FEW, MANY, None
+        yield f"{SERVED}, 25,000 at once", CORE_OF, [CORE, "crowd", "{}"], *CROWD, None
+        yield "the cancellation of a waiting get", CORE_OF, [CORE, "give-ups", "100000", "45000", "{}"], FEW, MANY, None
     if LIVE_OF in have:
         task = live("task", 4)
-        yield "a pair, check off", LIVE_OF, live("hand", 4), FEW, MANY, (task, 1)
-        yield "a pair, check off, on the machine's clock", LIVE_OF, live("machine", 4), FEW, MANY, (task, 1)
-        yield "a pair, check on", LIVE_OF, live("check", 4), FEW, MANY, (task, 1)
-        yield "a waiting get, served", LIVE_OF, live("crowd", 1), 12_500, 25_000, (task, 2)
-        yield "a get that waits and is let go", LIVE_OF, live("let-go", 1), 12_500, 25_000, (task, 1)
-
-
-def other_counts(have):
-    """The same of what stands beside them."""
+        yield settings_of(False), LIVE_OF, live("hand", 4), FEW, MANY, (task, 1)
+        yield f"{settings_of(False)}, on the machine's clock", LIVE_OF, live("machine", 4), FEW, MANY, (task, 1)
+        yield settings_of(True), LIVE_OF, live("check", 4), FEW, MANY, (task, 1)
+        yield f"{SERVED}, 25,000 at once", LIVE_OF, live("crowd", 1), *CROWD, (task, 2)
+        yield f"{CANCELLED}, 25,000 at once", LIVE_OF, live("let-go", 1), *CROWD, (task, 1)
     if ORIGINAL_OF in have:
         for whose, mode in ((ORIGINAL_CORE, "core"), (FREE_CORE, "core-free")):
             for size in SIZES:
                 yield round_of(size), whose, beside(ORIGINAL_OF, mode, size), FEW, MANY, None
-    for whose in (CRATE_OF, ORIGINAL_OF, R2D2_OF):
-        if whose not in have:
-            continue
-        yield "a pair, check off", whose, beside(whose, "hand", 4), FEW, MANY, None
-        yield "a pair, check off, no limits on ages", whose, beside(whose, "free", 4), FEW, MANY, None
-        yield "a pair, check on", whose, beside(whose, "check", 4), FEW, MANY, None
-        if whose != R2D2_OF:
-            yield "a waiting get, served", whose, beside(whose, "crowd", 1), 12_500, 25_000, None
-            yield "a get that waits and is let go", whose, beside(whose, "let-go", 1), 12_500, 25_000, None
+    for whose in POOLS:
+        if whose in have:
+            yield from counts_of(whose)
+
+
+def counts_of(whose):
+    """The same of one of the pools for Rust."""
+    for is_default, mode in ((True, "check"), (False, "hand")):
+        for wide in WIDTHS:
+            yield settings_of(is_default, wide), whose, beside(whose, mode, 4, wide), FEW, MANY, None
+    yield f"{settings_of(False)}, no limits on ages", whose, beside(whose, "free", 4), FEW, MANY, None
+    if whose != R2D2_OF:
+        for what, mode in ((SERVED, "crowd"), (CANCELLED, "let-go")):
+            yield f"{what}, 16 at a time", whose, beside(whose, f"{mode}16", 1), *BATCHES, None
+            yield f"{what}, 25,000 at once", whose, beside(whose, f"{mode}25000", 1), *CROWD, None
 
 
 def counted(rows):
-    """The instructions of each of these rows: what, whose, and how many."""
+    """The instructions of each of these: what, whose, and how many."""
     known = {}
     for what, whose, words, few, many, off in rows:
         figure = between(words, few, many)
@@ -108,7 +126,7 @@ def counted(rows):
 
 
 def kept_bytes(words):
-    """The bytes that a run asked the heap for and keeps: those that stand through the longest part of it, told by massif."""
+    """The bytes that a run keeps allocated through the longest part of it, by massif."""
     with tempfile.TemporaryDirectory() as folder:
         path = os.path.join(folder, "massif")
         profiled("massif", words, f"--massif-out-file={path}", "--time-unit=i", "--max-snapshots=1000", "--detailed-freq=1000000")
@@ -122,13 +140,14 @@ def kept_bytes(words):
     return max(lasted, key=lasted.get)
 
 
-# where tables that double are just full, as ours have entries of their own, and where all have just doubled
-OURS_FULL, FULL, DOUBLED = 4_094, 4_096, 4_097
+# where tables that double are just full, as ours have entries of their own, and where all have just
+# doubled
+OURS_FULL, FULL, DOUBLED = 4_031, 4_096, 4_097
 
 
 def heaps(have):
-    """The bytes beyond the first of them: what, whose, and the figure, for an idle connection, with its number of 8 bytes, and a waiting get.
-    The median of three runs, as r2d2 opens by threads."""
+    """The bytes beyond the first of them: what, whose, and the figure, for an idle connection, with
+    its number of 8 bytes, and a waiting get. The median of three runs, as r2d2 opens by threads."""
     def kept(words):
         return statistics.median(kept_bytes(words) for _ in range(3))
     runs = []
@@ -137,16 +156,16 @@ def heaps(have):
                  ("a waiting get", LIVE_OF, lambda many: [LIVE, "wait", str(many), "1"])]
     for whose in (CRATE_OF, ORIGINAL_OF, R2D2_OF):
         if whose in have:
-            runs.append(("an idle connection", whose, lambda many, whose=whose: [BESIDE, POOLS[whose], "hand", "400000", str(many)]))
+            runs.append(("an idle connection", whose, lambda many, whose=whose: [programs.beside(POOLS[whose]), "hand", "400000", str(many)]))
             if whose != R2D2_OF:
-                runs.append(("a waiting get", whose, lambda many, whose=whose: [BESIDE, POOLS[whose], "wait", str(many), "1"]))
+                runs.append(("a waiting get", whose, lambda many, whose=whose: [programs.beside(POOLS[whose]), "wait", str(many), "1"]))
     for what, whose, words in runs:
         first = kept(words(1))
         for where, many in (("full", OURS_FULL if whose in (LIVE_OF, CRATE_OF) else FULL), ("just grown", DOUBLED)):
             yield f"{what}, tables {where}", whose, f"{(kept(words(many)) - first) / (many - 1):.0f}"
     for whose in (CRATE_OF, ORIGINAL_OF):
         if whose in have:
-            told = subprocess.run([BESIDE, POOLS[whose], "sizes", "0", "1"], capture_output=True, text=True, check=True)
+            told = subprocess.run([programs.beside(POOLS[whose]), "sizes", "0", "1"], capture_output=True, text=True, check=True)
             yield "of a waiting get, its future", whose, told.stdout.strip()
 
 

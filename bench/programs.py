@@ -1,6 +1,7 @@
-"""The programs that are measured: builds what is to be had, and says in a line what is not.
+"""The programs that are measured: builds those that can be built here, and names the others in a
+line each.
 
-All that it makes stands in bench/target and in the `out` folders of two crates, which git ignores.
+All files that it writes are in bench/target and in the `out` folder of a crate, which git ignores.
 """
 import os
 import re
@@ -11,15 +12,19 @@ HERE = os.path.dirname(os.path.abspath(__file__))
 TOP = os.path.dirname(HERE)
 WORK = os.path.join(HERE, "target", "beside")
 ORIGINAL = os.path.join(HERE, "target", "original")
-CORE = os.path.join(HERE, "target", "release", "bench")
+TARGET = os.path.join(HERE, "target")
+CORE = os.path.join(TARGET, "release", "bench")
 LIVE = os.path.join(TOP, "crates", "bb8_live_bench", "out", "bb8_live_bench")
-BESIDE = os.path.join(WORK, "target", "release", "beside")
-# the original's version that is compared
+# the version of the original
 VERSION = "0.9.1"
+# bytes of a connection
+WIDTHS = (8, 128, 512)
+# how the tools are asked for their versions
+RUSTC, VALGRIND, KIT = ["rustc", "--version"], ["valgrind", "--version"], ["rt", "version"]
 
 
 def ran(words, folder=HERE, **more):
-    """What a command prints, or None where it fails or is not there."""
+    """What a command prints, or None if it fails or does not exist."""
     try:
         done = subprocess.run(words, cwd=folder, capture_output=True, text=True, **more)
     except OSError:
@@ -28,11 +33,12 @@ def ran(words, folder=HERE, **more):
 
 
 def lacks(what):
-    print(f"not to be had here: {what}", flush=True)
+    print(f"not available here: {what}", flush=True)
 
 
 def with_cargo():
-    """The environment for cargo: Debian's packages of crates where they are installed, else cargo's own registry."""
+    """The environment for cargo: Debian's packages of crates if they are installed, else cargo's
+    own registry."""
     home = (ran([os.path.join(TOP, "rust", "registry"), os.path.join(WORK, "cargo")]) or "").strip()
     return dict(os.environ, **({"CARGO_HOME": home} if home else {}))
 
@@ -44,7 +50,7 @@ def write(path, text):
 
 
 def fetched(name, wanted, environment):
-    """Whether cargo finds these dependencies; where it does, the folder of the last one's sources."""
+    """The folder of the last dependency's sources if cargo finds them all, else None."""
     folder = os.path.join(WORK, "probes", name)
     shutil.rmtree(folder, ignore_errors=True)
     lines = "\n".join(f'{crate} = "{version}"' for crate, version in wanted)
@@ -60,11 +66,14 @@ def fetched(name, wanted, environment):
     return place.group(1) if place else None
 
 
-def original(folder):
-    """Makes of the original's crate in this folder one that is measured, with rounds of its core as a module of its own."""
+def is_original_copied(folder):
+    """Copies the original's crate from this folder, and adds a module with rounds of its core.
+    Whether there is such a copy; if the folder is None, of an earlier run."""
+    if folder is None:
+        return os.path.isdir(ORIGINAL)
     out = ORIGINAL
     shutil.rmtree(out, ignore_errors=True)
-    if ran([os.path.join(TOP, "rust", "original"), folder, out]) is None:
+    if ran([os.path.join(TOP, "rust", "original"), os.path.abspath(folder), out]) is None:
         return False
     inner = os.path.join(out, "src", "internals")
     os.makedirs(inner)
@@ -77,43 +86,42 @@ def original(folder):
     return True
 
 
-def beside(folder):
-    """Builds the program of the other pools with those that are to be had: their names. The original's crate is in the folder, or in
-    cargo's registry where that is None."""
+def beside(pool, wide=8):
+    """The program of one of the pools for Rust, over connections of so many bytes. Each has a
+    program of its own, so that its code does not depend on the others."""
+    return os.path.join(WORK, "target", "release", f"beside-{pool}-{wide}")
+
+
+def build_pools(folder, wanted=("crate", "original", "r2d2")):
+    """Builds the programs of these pools. The names of those that were built. The original's crate
+    is in the folder; if that is None, in cargo's registry or in the copy of an earlier run."""
     if shutil.which("cargo") is None:
-        lacks("the Rust crate, the original and r2d2 (no cargo)")
+        lacks(f"{', '.join(wanted)} (no cargo)")
         return []
-    environment = with_cargo()
-    pools, lines = [], []
+    environment, needs = with_cargo(), {}
     if fetched("tokio", [("futures-util", "0.3"), ("tokio", "1")], environment):
-        pools.append("crate")
-        lines.append('tokio = { version = "1", features = ["rt", "rt-multi-thread", "time"], optional = true }')
-        lines.append(f'bb8 = {{ path = "{TOP}/rust/bb8", optional = true }}')
-        folder = folder or fetched("original", [("bb8", f"={VERSION}")], environment)
-        if folder and original(os.path.abspath(folder)):
-            pools.append("original")
-            lines.append(f'original = {{ path = "{ORIGINAL}", package = "bb8_original", optional = true }}')
-        else:
-            lacks(f"the original (cargo's registry has no bb8 {VERSION}, and ORIGINAL names no folder of its crate)")
-    else:
-        lacks("the Rust crate and the original (no tokio and futures-util in cargo's registry)")
-    if fetched("r2d2", [("r2d2", "0.8")], environment):
-        pools.append("r2d2")
-        lines.append('r2d2 = { version = "0.8", optional = true }')
-    else:
-        lacks("r2d2 (not in cargo's registry)")
-    return pools if pools and is_built(pools, lines, environment) else []
+        tokio = 'tokio = { version = "1", features = ["rt", "rt-multi-thread", "time"] }'
+        needs["crate"] = [tokio, f'bb8 = {{ path = "{TOP}/rust/bb8" }}']
+        if "original" in wanted and is_original_copied(folder or fetched("original", [("bb8", f"={VERSION}")], environment)):
+            needs["original"] = [tokio, f'original = {{ path = "{ORIGINAL}", package = "bb8_original" }}']
+    if "r2d2" in wanted and fetched("r2d2", [("r2d2", "0.8")], environment):
+        needs["r2d2"] = ['r2d2 = "0.8"']
+    whys = {"crate": "cargo's registry has no tokio or no futures-util", "r2d2": "cargo's registry has no r2d2",
+            "original": f"cargo's registry has no bb8 {VERSION}, tokio or futures-util, and neither --original nor an earlier run named a folder of its crate"}
+    for pool in wanted:
+        if pool not in needs:
+            lacks(f"{pool} ({whys[pool]})")
+    return [pool for pool in wanted if pool in needs and all(is_pool_built(pool, wide, needs[pool], environment) for wide in WIDTHS)]
 
 
-def is_built(pools, lines, environment):
-    """Whether the program was built with these pools."""
-    features = {"crate": ["tokio", "dep:tokio", "dep:bb8"], "original": ["original", "dep:original"], "r2d2": ["r2d2", "dep:r2d2"]}
-    told = "\n".join(f"{names[0]} = {names[1:]}".replace("'", '"') for pool, names in features.items() if pool in pools)
-    # Features that were not built with are named too, so that the compiler knows them.
-    told += "".join(f"\n{names[0]} = []" for pool, names in features.items() if pool not in pools)
-    wanted = "\n".join(lines)
-    write(os.path.join(WORK, "Cargo.toml"), f"""[package]
-name = "beside"
+def is_pool_built(pool, wide, needs, environment):
+    """Builds a program over these dependencies. Whether that worked."""
+    folder = os.path.join(WORK, f"{pool}-{wide}")
+    needed = "\n".join(needs)
+    # the features that it is not built with are named too, so that the compiler knows them
+    features = "\n".join(f"{name} = []" for name in ("crate", "original", "r2d2", *(f"bytes-{each}" for each in WIDTHS)))
+    write(os.path.join(folder, "Cargo.toml"), f"""[package]
+name = "beside-{pool}-{wide}"
 version = "0.1.0"
 edition = "2021"
 publish = false
@@ -121,42 +129,39 @@ publish = false
 [workspace]
 
 [features]
-{told}
+default = ["{pool}", "bytes-{wide}"]
+{features}
 
 [dependencies]
-{wanted}
+{needed}
 
 [profile.release]
 # Names for callgrind.
 debug = 1
 """)
-    shutil.rmtree(os.path.join(WORK, "src"), ignore_errors=True)
-    shutil.copytree(os.path.join(HERE, "beside", "src"), os.path.join(WORK, "src"))
-    names = ",".join(features[pool][0] for pool in pools)
+    shutil.rmtree(os.path.join(folder, "src"), ignore_errors=True)
+    shutil.copytree(os.path.join(HERE, "beside", "src"), os.path.join(folder, "src"))
     environment = dict(environment, CARGO_TARGET_DIR=os.path.join(WORK, "target"))
-    done = subprocess.run(["cargo", "build", "--quiet", "--release", "--features", names], cwd=WORK, env=environment, check=False)
+    done = subprocess.run(["cargo", "build", "--quiet", "--release"], cwd=folder, env=environment, check=False)
     if done.returncode:
-        lacks(f"{', '.join(pools)}: they were not built")
+        lacks(f"{pool} (cargo build failed)")
     return done.returncode == 0
 
 
 def is_core_built():
-    """Whether the core's program stands built, by the kit and cargo."""
-    if shutil.which("rt") is None or shutil.which("cargo") is None:
-        lacks("the core (no kit, or no cargo)")
+    """Builds the core's program. Whether that worked."""
+    if shutil.which("cargo") is None:
+        lacks("the core (no cargo)")
         return False
-    library = subprocess.run(["rt", "lib"], cwd=os.path.join(TOP, "crates", "bb8_bench"), capture_output=True, text=True, check=False)
-    if library.returncode:
-        lacks(f"the core (rt lib failed: {library.stdout[-300:]}{library.stderr[-300:]})")
-        return False
-    if ran(["cargo", "build", "--quiet", "--release"]) is None:
+    environment = dict(with_cargo(), CARGO_TARGET_DIR=TARGET)
+    done = subprocess.run(["cargo", "build", "--quiet", "--release"], cwd=HERE, env=environment, check=False)
+    if done.returncode:
         lacks("the core (cargo build failed)")
-        return False
-    return True
+    return done.returncode == 0
 
 
 def is_live_built():
-    """Whether the live pool's program stands built, by the kit."""
+    """Builds the live pool's program, with the kit. Whether that worked."""
     if shutil.which("rt") is None:
         lacks("the live pool (no kit)")
         return False
@@ -167,18 +172,31 @@ def is_live_built():
     return done.returncode == 0
 
 
-def standing():
-    """What stands built from an earlier run: of the core, of the live pool, and the names of the pools of `beside`."""
-    pools = []
-    if os.path.exists(BESIDE):
-        with open(os.path.join(WORK, "Cargo.toml"), encoding="utf-8") as told:
-            text = told.read()
-        pools = [pool for pool, word in (("crate", "bb8 = {"), ("original", "original = {"), ("r2d2", "r2d2 = {")) if f"\n{word}" in text]
-    return os.path.exists(CORE), os.path.exists(LIVE), pools
+def is_live_there():
+    """Whether the live pool's program was built by an earlier run."""
+    if not os.path.exists(LIVE):
+        lacks("the live pool (its program is not built)")
+    return os.path.exists(LIVE)
+
+
+def version(words):
+    """What a tool says of its version, or nothing if it does not exist."""
+    return (ran(words) or "").strip()
+
+
+def dependencies():
+    """The versions of the crates that the programs of the pools for Rust are built over."""
+    found = {}
+    for pool in ("crate", "original", "r2d2"):
+        path = os.path.join(WORK, f"{pool}-8", "Cargo.lock")
+        if os.path.exists(path):
+            with open(path, encoding="utf-8") as told:
+                found.update(re.findall(r'name = "(tokio|r2d2)"\nversion = "([^"]*)"', told.read()))
+    return [f"{name} {found[name]}" for name in sorted(found)]
 
 
 def machine():
-    """The processor's name and how many there are."""
+    """The processor's name, and how many there are."""
     with open("/proc/cpuinfo", encoding="utf-8") as told:
         text = told.read()
     name = re.search(r"^model name\s*: (.*)$", text, re.M)

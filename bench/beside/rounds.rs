@@ -1,15 +1,15 @@
-//! Rounds of the original's locked core: this file is put into a copy of the original's crate, as a module of `internals`, whose parts
-//! are not public, by `bench/compare.py`.
+//! Rounds of the original's locked core. `bench/compare.py` adds this file to a copy of the
+//! original's crate, as a module of `internals`, whose items are not public.
 
 use super::{Conn, SharedPool, StatsGetKind};
 use crate::api::{Builder, ManageConnection};
 use std::sync::Arc;
 use std::time::Instant;
 
-/// Over `size` idle connections, `count` times a get begins, takes the one that is first in the line, and gives it back, as
-/// `PoolInner::get` and `PoolInner::put_back` do it, without the future, its timer, and the manager, and with the default limits on ages
-/// or none: how many were served.
-pub fn rounds<M: ManageConnection<Connection = u64>>(manager: M, size: u32, limits: bool, count: u64) -> u64 {
+/// Over `size` idle connections, `count` times begins a get, checks out the first one in the queue
+/// and returns it, as `PoolInner::get` and `PoolInner::put_back` do, without the future, its timer
+/// and the manager, and with the default limits on ages or none. Returns how many were served.
+pub fn rounds<M: ManageConnection>(manager: M, open: fn(u64) -> M::Connection, size: u32, limits: bool, count: u64) -> u64 {
     let builder = Builder::new().max_size(size).test_on_check_out(false);
     let builder = if limits {
         builder
@@ -18,7 +18,7 @@ pub fn rounds<M: ManageConnection<Connection = u64>>(manager: M, size: u32, limi
     };
     let shared = Arc::new(SharedPool::new(builder, manager));
     for number in 0..size {
-        assert!(shared.try_put(number.into()).is_ok());
+        assert!(shared.try_put(open(number.into())).is_ok());
     }
     let mut served = 0;
     for _ in 0..count {
@@ -34,8 +34,8 @@ pub fn rounds<M: ManageConnection<Connection = u64>>(manager: M, size: u32, limi
     served
 }
 
-/// Gives a connection back: 1 where it is kept.
-fn put_back<M: ManageConnection<Connection = u64>>(shared: &Arc<SharedPool<M>>, conn: Conn<u64>) -> u64 {
+/// Returns a connection to the pool. Returns 1 if it is kept, else 0.
+fn put_back<M: ManageConnection>(shared: &Arc<SharedPool<M>>, conn: Conn<M::Connection>) -> u64 {
     let expired = shared
         .statics
         .max_lifetime

@@ -1,12 +1,13 @@
-//! Measures the core of the pool, beside what a user would take instead.
+//! Measures the proved core, `rust/bb8-core`, without futures and managers, beside a `Mutex` around
+//! a `VecDeque`.
 //!
-//! Without arguments it prints the table. `bench rounds SIZE ROUNDS`, `bench drain SIZE`, `bench crowd GETS`,
-//! `bench give-ups GETS FROM COUNT`, `bench reaps SIZE REAPS` and `bench floor ROUNDS` make one run for a profiler, and print its checksum.
+//! Without arguments it prints a table of times. With a mode it makes one run for a profiler, and
+//! prints its checksum; see `USAGE`.
 
-mod library;
-mod script;
+mod opening;
+mod serving;
+mod waiting;
 
-use library::{core_crowd, core_fill_drain, core_give_ups, core_rounds, script_run};
 use std::collections::VecDeque;
 use std::env;
 use std::fs;
@@ -15,49 +16,52 @@ use std::process::ExitCode;
 use std::sync::Mutex;
 use std::time::Instant;
 
+const USAGE: &str =
+    "usage: bench [rounds SIZE ROUNDS | drain SIZE | reaps SIZE REAPS | crowd GETS | give-ups GETS FROM COUNT | floor ROUNDS]";
 const SIZES: [u32; 4] = [1, 10, 1_000, 100_000];
 const ROUNDS: u64 = 1_000_000;
 const REPETITIONS: usize = 9;
-/// The size of the queue behind the floor.
+/// The length of the queue of the floor.
 const FLOOR_SIZE: u64 = 10;
 
-/// Nanoseconds that a call takes, with what it answers.
+/// Returns the nanoseconds that a call takes, and its result.
 fn timed<T>(call: impl FnOnce() -> T) -> (f64, T) {
     let start = Instant::now();
-    let answer = black_box(call());
-    (start.elapsed().as_nanos() as f64, answer)
+    let result = black_box(call());
+    (start.elapsed().as_nanos() as f64, result)
 }
 
-/// The middle one of the repetitions.
+/// Returns the median of the repetitions.
 fn median(mut measure: impl FnMut() -> f64) -> f64 {
     let mut figures: Vec<f64> = (0..REPETITIONS).map(|_| measure()).collect();
     figures.sort_by(f64::total_cmp);
     figures[REPETITIONS / 2]
 }
 
-/// What `core_rounds` must answer: connections go out in turn.
+/// Returns the checksum of so many rounds: connections are served in turn.
 fn rounds_sum(size: u64, rounds: u64) -> u64 {
     let (turns, rest) = (rounds / size, rounds % size);
     turns * (size * (size + 1) / 2) + rest * (rest + 1) / 2
 }
 
-/// Nanoseconds a round over so many connections, without what opening them takes.
+/// Returns the nanoseconds of a round over so many connections, without their opening.
 fn core_round(size: u32) -> f64 {
-    let (opening, none) = timed(|| core_rounds(size, 0));
-    assert_eq!(none, 0);
-    let (whole, sum) = timed(|| core_rounds(size, black_box(ROUNDS)));
-    assert_eq!(sum, rounds_sum(size.into(), ROUNDS));
+    let (opening, none) = timed(|| serving::rounds(size, 0));
+    assert_eq!(none, Some(0));
+    let (whole, sum) = timed(|| serving::rounds(size, black_box(ROUNDS)));
+    assert_eq!(sum, Some(rounds_sum(size.into(), ROUNDS)));
     (whole - opening) / ROUNDS as f64
 }
 
-/// Nanoseconds to open one of so many connections and have it taken.
+/// Returns the nanoseconds in which one of so many connections is opened and served.
 fn core_drain(size: u32) -> f64 {
-    let (whole, sum) = timed(|| core_fill_drain(size));
-    assert_eq!(sum, rounds_sum(size.into(), size.into()));
+    let (whole, sum) = timed(|| serving::drain(size));
+    assert_eq!(sum, Some(rounds_sum(size.into(), size.into())));
     whole / f64::from(size)
 }
 
-/// What a user would take instead: lock, pop, unlock, lock, push, unlock.
+/// The least that any pool does for a round: lock, pop, unlock, lock, push, unlock.
+#[inline(never)]
 fn floor_rounds(rounds: u64) -> u64 {
     let queue = Mutex::new((0..FLOOR_SIZE).collect::<VecDeque<u64>>());
     let mut sum = 0;
@@ -73,75 +77,51 @@ fn floor_rounds(rounds: u64) -> u64 {
     sum
 }
 
-/// Nanoseconds a round of the floor.
+/// Returns the nanoseconds of a round of the floor.
 fn floor_round() -> f64 {
     let (whole, sum) = timed(|| floor_rounds(black_box(ROUNDS)));
     assert_eq!(sum, rounds_sum(FLOOR_SIZE, ROUNDS));
     whole / ROUNDS as f64
 }
 
-/// Milliseconds that a script of 100,000 events takes, from bytes to bytes.
-fn script_time(input: &str, answers: &str, out: &mut [u8]) -> f64 {
-    let (whole, written) = timed(|| script_run(input.as_bytes(), out));
-    assert!(out[..written] == *answers.as_bytes());
-    whole / 1e6
-}
-
-/// The name of the processor, as the system tells it.
+/// Returns the name of the processor and how many there are.
 fn processor() -> String {
-    let told = fs::read_to_string("/proc/cpuinfo").unwrap_or_default();
-    let model = told.lines().find(|line| line.starts_with("model name"));
+    let info = fs::read_to_string("/proc/cpuinfo").unwrap_or_default();
+    let model = info.lines().find(|line| line.starts_with("model name"));
     let name = model.and_then(|line| line.split(": ").nth(1)).unwrap_or("unknown");
-    let many = told.lines().filter(|line| line.starts_with("processor")).count();
+    let many = info.lines().filter(|line| line.starts_with("processor")).count();
     format!("{name}, {many} processors")
 }
 
-/// How often a script that reaps so many connections was answered that none of them ended: each time.
-fn script_reaps(size: usize, reaps: usize) -> u64 {
-    let (input, answers) = (script::reaping(size, reaps), script::reaping_answers(size, reaps));
-    let mut out = vec![0; answers.len()];
-    let written = script_run(input.as_bytes(), &mut out);
-    assert!(out[..written] == *answers.as_bytes());
-    reaps as u64
-}
-
 fn print_table() {
-    println!("| figure | median of {REPETITIONS} |");
+    println!("| time | median of {REPETITIONS} |");
     println!("|---|---|");
     for size in SIZES {
-        println!(
-            "| `core_rounds`, {size} connections | {:.1} ns a round |",
-            median(|| core_round(size))
-        );
+        println!("| a round, {size} connections | {:.1} ns |", median(|| core_round(size)));
     }
     println!(
-        "| floor: a `Mutex` round a `VecDeque` of {FLOOR_SIZE} | {:.1} ns a round |",
+        "| floor: a `Mutex` around a `VecDeque` of {FLOOR_SIZE} | {:.1} ns |",
         median(floor_round)
     );
     for size in SIZES {
         println!(
-            "| `core_fill_drain`, {size} connections | {:.1} ns a connection |",
+            "| to open and serve one of {size} connections | {:.1} ns |",
             median(|| core_drain(size))
         );
     }
-    let (input, answers) = (script::events(), script::answers());
-    let mut out = vec![0; answers.len()];
-    println!(
-        "| `script_run`, 100,000 events | {:.1} ms |",
-        median(|| script_time(&input, &answers, &mut out))
-    );
     println!();
     println!("{}", processor());
 }
 
-/// One run for a profiler.
+/// Makes one run for a profiler, and returns its checksum. None if there is no such mode or the run
+/// failed.
 fn run_once(words: &[&str]) -> Option<u64> {
     match words {
-        ["rounds", size, rounds] => Some(core_rounds(size.parse().ok()?, rounds.parse().ok()?)),
-        ["drain", size] => Some(core_fill_drain(size.parse().ok()?)),
-        ["crowd", gets] => Some(core_crowd(gets.parse().ok()?)),
-        ["give-ups", gets, from, count] => Some(core_give_ups(gets.parse().ok()?, from.parse().ok()?, count.parse().ok()?)),
-        ["reaps", size, reaps] => Some(script_reaps(size.parse().ok()?, reaps.parse().ok()?)),
+        ["rounds", size, rounds] => serving::rounds(size.parse().ok()?, rounds.parse().ok()?),
+        ["drain", size] => serving::drain(size.parse().ok()?),
+        ["reaps", size, count] => serving::reaps(size.parse().ok()?, count.parse().ok()?),
+        ["crowd", gets] => waiting::crowd(gets.parse().ok()?),
+        ["give-ups", gets, from, count] => waiting::give_ups(gets.parse().ok()?, from.parse().ok()?, count.parse().ok()?),
         ["floor", rounds] => Some(floor_rounds(rounds.parse().ok()?)),
         _ => None,
     }
@@ -160,9 +140,7 @@ fn main() -> ExitCode {
             ExitCode::SUCCESS
         }
         None => {
-            eprintln!(
-                "usage: bench [rounds SIZE ROUNDS | drain SIZE | crowd GETS | give-ups GETS FROM COUNT | reaps SIZE REAPS | floor ROUNDS]"
-            );
+            eprintln!("{USAGE}");
             ExitCode::from(2)
         }
     }

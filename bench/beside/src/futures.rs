@@ -1,10 +1,11 @@
-//! Runs over the pools whose gets are futures, which are polled by hand, inside a runtime of tokio that is not turned.
+//! Runs over the pools whose gets are futures. They are polled by hand, inside a runtime of tokio
+//! that is not driven.
 
-use crate::numbers::{Never, Numbers};
+use crate::numbers::{Connection, Never, Numbered, Numbers};
 use crate::Run;
 use std::future::Future;
 use std::hint::{black_box, spin_loop};
-use std::mem::size_of_val;
+use std::mem::{forget, size_of_val};
 use std::pin::{pin, Pin};
 use std::task::{Context, Poll, Waker};
 use std::thread;
@@ -12,10 +13,15 @@ use std::time::{Duration, Instant};
 use tokio::task::yield_now;
 use tokio::{runtime, time};
 
-/// How many polls last a while.
+/// How often `wait` polls, so that it lasts long enough to be seen by massif.
 const POLLS: u64 = 200_000;
+/// How many gets wait at once in a batch.
+const BATCH: usize = 16;
+/// How many boxes there are for a crowd whose instructions are counted. As the number of gets does
+/// not change them, a difference of two runs does not contain their cost.
+const BOXES: usize = 25_000;
 
-/// One poll by hand.
+/// Polls once.
 fn polled<T>(future: Pin<&mut impl Future<Output = T>>) -> Option<T> {
     match future.poll(&mut Context::from_waker(Waker::noop())) {
         Poll::Ready(value) => Some(value),
@@ -23,16 +29,7 @@ fn polled<T>(future: Pin<&mut impl Future<Output = T>>) -> Option<T> {
     }
 }
 
-/// The future at this place, which was not moved since its first poll.
-///
-/// # Safety
-///
-/// The list is not changed, moved out of, or made longer until it is dropped, from the first such call on.
-unsafe fn pinned<F>(all: &mut [F], place: usize) -> Pin<&mut F> {
-    Pin::new_unchecked(&mut all[place])
-}
-
-/// What a task does while it has a connection, by the end of the mode's name.
+/// Holds a connection in the way that the end of the mode's name says.
 async fn hold(mode: &str) {
     match mode.rsplit('-').next() {
         Some("sleep") => time::sleep(Duration::from_millis(1)).await,
@@ -54,23 +51,23 @@ macro_rules! runs {
             use ::$name::{Builder, ManageConnection, Pool, PooledConnection};
 
             impl ManageConnection for Numbers {
-                type Connection = u64;
+                type Connection = Connection;
                 type Error = Never;
 
-                async fn connect(&self) -> Result<u64, Never> {
-                    Ok(7)
+                async fn connect(&self) -> Result<Connection, Never> {
+                    Ok(Connection::of(7))
                 }
 
-                async fn is_valid(&self, _: &mut u64) -> Result<(), Never> {
+                async fn is_valid(&self, _: &mut Connection) -> Result<(), Never> {
                     Ok(())
                 }
 
-                fn has_broken(&self, _: &mut u64) -> bool {
+                fn has_broken(&self, _: &mut Connection) -> bool {
                     false
                 }
             }
 
-            /// A pool that is full.
+            /// Returns a full pool.
             fn pool(size: u32, check: bool, limits: bool) -> Pool<Numbers> {
                 let builder = Pool::builder().max_size(size).test_on_check_out(check);
                 let builder = if limits {
@@ -80,24 +77,25 @@ macro_rules! runs {
                 };
                 let pool = builder.build_unchecked(Numbers);
                 for number in 0..size {
-                    pool.add(number.into()).expect("there is room");
+                    pool.add(Connection::of(number.into())).expect("there is room");
                 }
                 pool
             }
 
-            /// So many gets, each polled once and dropped: how many were served.
+            /// Polls `count` gets once each and drops each connection. Returns how many were
+            /// served.
             fn rounds(pool: &Pool<Numbers>, count: u64) -> u64 {
                 let mut served = 0;
                 for _ in 0..count {
                     if let Some(Ok(guard)) = polled(pin!(pool.get())) {
-                        black_box(*guard);
+                        black_box(guard.number());
                         served += 1;
                     }
                 }
                 served
             }
 
-            /// The same in so many threads.
+            /// Runs `rounds` in so many threads.
             fn shared(pool: &Pool<Numbers>, count: u64, threads: u32) -> u64 {
                 let runtime = runtime::Handle::current();
                 thread::scope(|scope| {
@@ -110,27 +108,29 @@ macro_rules! runs {
                 })
             }
 
-            /// Takes so many connections.
+            /// Checks out so many connections.
             fn taken(pool: &Pool<Numbers>, size: u32) -> Vec<PooledConnection<'_, Numbers>> {
                 (0..size).filter_map(|_| polled(pin!(pool.get()))?.ok()).collect()
             }
 
-            /// So many gets wait for connections that are all out; then they are served one by one, or let go: how many were.
-            fn crowd(pool: &Pool<Numbers>, count: u64, size: u32, serve: bool) -> u64 {
-                let mut guards = taken(pool, size);
-                let mut gets: Vec<_> = (0..count).map(|_| pool.get()).collect();
-                for place in 0..gets.len() {
-                    // SAFETY: the list stays as it is until it is dropped.
-                    assert!(polled(unsafe { pinned(&mut gets, place) }).is_none());
+            /// Has `run.count` gets wait at once for connections that are all checked out, each in
+            /// one of `boxes` boxes, then serves them one by one, or cancels them. Returns how many
+            /// gets were served or cancelled.
+            fn crowd(pool: &Pool<Numbers>, run: &Run, boxes: usize, serve: bool) -> u64 {
+                let mut guards = taken(pool, run.size);
+                let mut all: Vec<_> = (0..boxes).map(|_| Box::pin(None)).collect();
+                let gets = &mut all[..run.count as usize];
+                for get in &mut *gets {
+                    get.set(Some(pool.get()));
+                    assert!(get.as_mut().as_pin_mut().and_then(polled).is_none());
                 }
                 if !serve {
-                    return gets.len() as u64;
+                    return run.count;
                 }
                 let mut served = 0;
-                for place in 0..gets.len() {
+                for get in gets {
                     drop(guards.pop());
-                    // SAFETY: as above.
-                    if let Some(Ok(guard)) = polled(unsafe { pinned(&mut gets, place) }) {
+                    if let Some(Ok(guard)) = get.as_mut().as_pin_mut().and_then(polled) {
                         guards.push(guard);
                         served += 1;
                     }
@@ -138,24 +138,47 @@ macro_rules! runs {
                 served
             }
 
-            /// So many gets wait for connections that are all out, and the one that came last is polled for a while: how many there are.
+            /// Has gets wait for connections that are all checked out, `BATCH` at once, then serves
+            /// these one by one, or cancels them, until there were `count`. Returns how many were.
+            fn batches(pool: &Pool<Numbers>, count: u64, size: u32, serve: bool) -> u64 {
+                let mut guards = taken(pool, size);
+                let mut gets: Vec<_> = (0..BATCH).map(|_| Box::pin(None)).collect();
+                let mut ended = 0;
+                while ended < count {
+                    for get in &mut gets {
+                        get.set(Some(pool.get()));
+                        assert!(get.as_mut().as_pin_mut().and_then(polled).is_none());
+                    }
+                    for get in &mut gets {
+                        if serve {
+                            drop(guards.pop());
+                            let served = get.as_mut().as_pin_mut().and_then(polled);
+                            guards.push(served.expect("it was notified").expect("it is served"));
+                        }
+                        get.set(None);
+                        ended += 1;
+                    }
+                }
+                ended
+            }
+
+            /// Has `count` gets wait for connections that are all checked out, and polls the last
+            /// one for a while. Returns `count`.
             fn waiting(pool: &Pool<Numbers>, count: u64, size: u32) -> u64 {
                 let _guards = taken(pool, size);
-                let mut gets: Vec<_> = (0..count).map(|_| pool.get()).collect();
-                for place in 0..gets.len() {
-                    // SAFETY: the list stays as it is until it is dropped.
-                    assert!(polled(unsafe { pinned(&mut gets, place) }).is_none());
-                }
-                for _ in 0..POLLS {
-                    if let Some(last) = gets.len().checked_sub(1) {
-                        // SAFETY: as above.
-                        assert!(polled(unsafe { pinned(&mut gets, last) }).is_none());
+                for number in 1..=count {
+                    let mut get = Box::pin(pool.get());
+                    for _ in 0..if number == count { POLLS } else { 1 } {
+                        assert!(polled(get.as_mut()).is_none());
                     }
+                    // It waits until the program ends. A list of the boxes would add to the bytes.
+                    forget(get);
                 }
                 count
             }
 
-            /// The rounds of a task that takes a connection, has it for a while, gives it back and asks again, until this time.
+            /// Until this time, gets a connection, holds it, returns it and starts again. Returns
+            /// the number of rounds.
             async fn share(pool: Pool<Numbers>, mode: String, end: Instant) -> u64 {
                 let mut rounds = 0;
                 while Instant::now() < end {
@@ -172,7 +195,8 @@ macro_rules! runs {
                 rounds
             }
 
-            /// How many gets time out, at a second, and the rounds of so many such tasks in so many milliseconds, from the least on.
+            /// Runs such tasks for so many milliseconds. Returns how many gets timed out, at a
+            /// second, and the rounds of each task, sorted.
             pub fn shares(run: &Run) -> Option<String> {
                 let builder = Pool::builder()
                     .max_size(run.size)
@@ -207,7 +231,7 @@ macro_rules! runs {
                 Some(all.iter().fold(late.to_string(), |told, rounds| format!("{told} {rounds}")))
             }
 
-            /// The answer of a run.
+            /// Returns the result of a run. None if there is no such mode.
             pub fn answer(run: &Run) -> Option<u64> {
                 let runtime = runtime::Builder::new_current_thread().enable_time().build().ok()?;
                 let _inside = runtime.enter();
@@ -218,8 +242,11 @@ macro_rules! runs {
                     "check" => Some(rounds(&pool(true, true), run.count)),
                     "threads" => Some(shared(&pool(false, true), run.count, run.threads)),
                     "threads-check" => Some(shared(&pool(true, true), run.count, run.threads)),
-                    "crowd" => Some(crowd(&pool(false, true), run.count, run.size, true)),
-                    "let-go" => Some(crowd(&pool(false, true), run.count, run.size, false)),
+                    "crowd" => Some(crowd(&pool(false, true), run, run.count as usize, true)),
+                    "crowd25000" => Some(crowd(&pool(false, true), run, BOXES, true)),
+                    "let-go25000" => Some(crowd(&pool(false, true), run, BOXES, false)),
+                    "crowd16" => Some(batches(&pool(false, true), run.count, run.size, true)),
+                    "let-go16" => Some(batches(&pool(false, true), run.count, run.size, false)),
                     "wait" => Some(waiting(&pool(false, true), run.count, run.size)),
                     "sizes" => Some(size_of_val(&pool(false, true).get()) as u64),
                     _ => None,
@@ -229,6 +256,7 @@ macro_rules! runs {
     };
 }
 
+#[cfg(feature = "crate")]
 runs!(bb8, |builder| builder.fair_after(Duration::from_millis(1)));
 #[cfg(feature = "original")]
 runs!(original, |builder| builder);

@@ -1,28 +1,39 @@
-//! Gets and drops of pools that a user would take instead, one run for a profiler or a clock:
-//! `beside POOL MODE COUNT SIZE [THREADS]`, where POOL is `crate` (rust/bb8), `original` or `r2d2`, as far as it was built with them.
+//! Gets and returns of pools for tokio and for threads, one run for a profiler or a clock: `beside
+//! MODE COUNT SIZE [THREADS]`. It is built once for each pool, with the feature `crate` (rust/bb8),
+//! `original` or `r2d2`, and once for each size of a connection, with the feature `bytes-8`,
+//! `bytes-128` or `bytes-512`.
 //!
-//! The modes are those of `crates/bb8_live_bench`, each get polled once by hand, over a pool of `SIZE` connections with the default
-//! limits on their ages:
+//! Each get is polled once by hand, over a pool of `SIZE` connections, with the default limits on
+//! their ages:
 //!
-//! - `hand`: a get and its drop, with the check off; `free` the same without limits on ages; `check` with the check on;
-//! - `threads`: so many threads, four if none is said, of so many rounds each, with the check off; `threads-check` with the check on;
-//! - `crowd`: so many gets wait for the connections, which are all out, and are served one by one; `let-go`: they are let go; `wait`:
-//!   they wait for a while;
-//! - `wake`: two threads take turns with one connection of r2d2, and sleep in their gets; it prints two figures, as there;
-//! - `core`: rounds of the original's locked core alone; `core-free` the same without limits on ages;
-//! - `tasks-HELD`: for so many milliseconds so many tasks take a connection, have it for what HELD says (`nothing`, `yield`, `compute` for
-//!   20 microseconds, `sleep` of a millisecond) and ask again; `fair-tasks-HELD` the same of the crate with `fair_after` of a
-//!   millisecond. It prints how many gets timed out, and the rounds of each task, from the least on;
+//! - `hand`: a get and its return, with the check off; `free`: the same without limits on ages;
+//!   `check`: with the default settings, so with the check on;
+//! - `threads`: in so many threads, by default four, so many rounds each, with the check off;
+//!   `threads-check`: with the default settings;
+//! - `crowd`: so many gets wait at once for the connections, which are all checked out, and are
+//!   served one by one; `crowd25000`: the same in 25,000 boxes, whatever the number of gets;
+//!   `crowd16`: they come in batches of 16, each of which is served before the next; `let-go25000`,
+//!   `let-go16`: they are cancelled instead; `wait`: they wait for a while;
+//! - `wake`: two threads take turns with one connection of r2d2, and sleep in their gets; it prints
+//!   two figures;
+//! - `core`: rounds of the original's locked core alone; `core-free`: the same without limits on
+//!   ages;
+//! - `tasks-HELD`: for so many milliseconds so many tasks get a connection, hold it as HELD says
+//!   (`nothing`, `yield`, `compute` for 20 microseconds, `sleep` of a millisecond) and start again;
+//!   `fair-tasks-HELD`: the same with the crate's `fair_after` of a millisecond. It prints how many
+//!   gets timed out, and the rounds of each task, sorted;
 //! - `sizes`: how many bytes the future of a get has.
 //!
-//! Else it prints how many gets were served, or let go, or the size.
+//! Otherwise it prints how many gets were served or cancelled, or the size.
 
-#[cfg(feature = "tokio")]
+#[cfg(any(feature = "crate", feature = "original"))]
 mod futures;
 mod numbers;
 #[cfg(feature = "r2d2")]
 mod threads;
 
+#[cfg(feature = "original")]
+use numbers::{Connection, Numbered, Numbers};
 use std::env;
 use std::process::ExitCode;
 
@@ -34,61 +45,59 @@ pub struct Run {
     pub threads: u32,
 }
 
-/// So many rounds of the original's core.
-#[cfg(feature = "original")]
-fn core_rounds(run: &Run) -> Option<u64> {
-    match run.mode.as_str() {
-        "core" => Some(original::rounds(numbers::Numbers, run.size, true, run.count)),
-        "core-free" => Some(original::rounds(numbers::Numbers, run.size, false, run.count)),
-        _ => None,
+/// Makes a run over the crate. None if there is no such mode.
+#[cfg(feature = "crate")]
+fn answer(run: &Run) -> Option<String> {
+    if run.mode.contains("tasks") {
+        return futures::bb8::shares(run);
     }
+    futures::bb8::answer(run).map(|number| number.to_string())
 }
 
-/// The answer of a run over this pool. None where there is no such pool or mode.
-fn answer(pool: &str, run: &Run) -> Option<String> {
-    let number = match pool {
-        #[cfg(feature = "tokio")]
-        "crate" if run.mode.contains("tasks") => return futures::bb8::shares(run),
-        #[cfg(feature = "tokio")]
-        "crate" => futures::bb8::answer(run),
-        #[cfg(feature = "original")]
-        "original" if run.mode.starts_with("core") => core_rounds(run),
-        #[cfg(feature = "original")]
-        "original" if run.mode.starts_with("tasks") => return futures::original::shares(run),
-        #[cfg(feature = "original")]
-        "original" => futures::original::answer(run),
-        #[cfg(feature = "r2d2")]
-        "r2d2" if run.mode == "wake" => return threads::woken(run.count),
-        #[cfg(feature = "r2d2")]
-        "r2d2" => threads::answer(run),
-        _ => None,
+/// Makes a run over the original. None if there is no such mode.
+#[cfg(feature = "original")]
+fn answer(run: &Run) -> Option<String> {
+    let rounds = |limits| original::rounds(Numbers, Connection::of, run.size, limits, run.count);
+    let number = match run.mode.as_str() {
+        "core" => rounds(true),
+        "core-free" => rounds(false),
+        mode if mode.starts_with("tasks") => return futures::original::shares(run),
+        _ => futures::original::answer(run)?,
     };
-    number.map(|number| number.to_string())
+    Some(number.to_string())
 }
 
-/// The words of a run.
-fn told(words: &[String]) -> Option<(&str, Run)> {
-    let [pool, mode, count, size, rest @ ..] = words else {
+/// Makes a run over r2d2. None if there is no such mode.
+#[cfg(feature = "r2d2")]
+fn answer(run: &Run) -> Option<String> {
+    if run.mode == "wake" {
+        return threads::woken(run.count);
+    }
+    threads::answer(run).map(|number| number.to_string())
+}
+
+/// Reads the arguments. None if they are not those of a run.
+fn parsed(words: &[String]) -> Option<Run> {
+    let [mode, count, size, rest @ ..] = words else {
         return None;
     };
-    let run = Run {
+    Some(Run {
         mode: mode.clone(),
         count: count.parse().ok()?,
         size: size.parse().ok()?,
         threads: rest.first().map_or(Some(4), |text| text.parse().ok())?,
-    };
-    Some((pool, run))
+    })
 }
 
 fn main() -> ExitCode {
     let words: Vec<String> = env::args().skip(1).collect();
-    match told(&words).and_then(|(pool, run)| answer(pool, &run)) {
+    match parsed(&words).and_then(|run| answer(&run)) {
         Some(line) => {
             println!("{line}");
             ExitCode::SUCCESS
         }
         None => {
-            eprintln!("usage: beside POOL MODE COUNT SIZE [THREADS]");
+            eprintln!("usage: beside MODE COUNT SIZE [THREADS]");
             ExitCode::from(2)
         }
     }

@@ -1,6 +1,6 @@
-//! Runs over r2d2, whose gets hold up their thread.
+//! Runs over r2d2, whose gets block their thread.
 
-use crate::numbers::{Never, Numbers};
+use crate::numbers::{Connection, Never, Numbered, Numbers};
 use crate::Run;
 use r2d2::{ManageConnection, Pool};
 use std::hint::black_box;
@@ -9,23 +9,23 @@ use std::thread;
 use std::time::{Duration, Instant};
 
 impl ManageConnection for Numbers {
-    type Connection = u64;
+    type Connection = Connection;
     type Error = Never;
 
-    fn connect(&self) -> Result<u64, Never> {
-        Ok(7)
+    fn connect(&self) -> Result<Connection, Never> {
+        Ok(Connection::of(7))
     }
 
-    fn is_valid(&self, _: &mut u64) -> Result<(), Never> {
+    fn is_valid(&self, _: &mut Connection) -> Result<(), Never> {
         Ok(())
     }
 
-    fn has_broken(&self, _: &mut u64) -> bool {
+    fn has_broken(&self, _: &mut Connection) -> bool {
         false
     }
 }
 
-/// A pool that is full.
+/// Returns a full pool.
 fn pool(size: u32, check: bool, limits: bool) -> Pool<Numbers> {
     let builder = Pool::builder().max_size(size).min_idle(Some(size)).test_on_check_out(check);
     let builder = if limits {
@@ -36,19 +36,19 @@ fn pool(size: u32, check: bool, limits: bool) -> Pool<Numbers> {
     builder.build(Numbers).expect("it opens numbers")
 }
 
-/// So many gets, each dropped: how many were served.
+/// Makes `count` gets and drops each connection. Returns how many were served.
 fn rounds(pool: &Pool<Numbers>, count: u64) -> u64 {
     let mut served = 0;
     for _ in 0..count {
         if let Ok(guard) = pool.get() {
-            black_box(*guard);
+            black_box(guard.number());
             served += 1;
         }
     }
     served
 }
 
-/// The same in so many threads.
+/// Runs `rounds` in so many threads.
 fn shared(pool: &Pool<Numbers>, count: u64, threads: u32) -> u64 {
     thread::scope(|scope| {
         let all: Vec<_> = (0..threads).map(|_| scope.spawn(|| rounds(pool, count))).collect();
@@ -56,8 +56,9 @@ fn shared(pool: &Pool<Numbers>, count: u64, threads: u32) -> u64 {
     })
 }
 
-/// Two threads take turns with one connection, so many rounds each, and sleep in their gets: the median and the 95th percentile of the
-/// nanoseconds from a return to the answer of the get that waits for it.
+/// Two threads take turns with one connection, so many rounds each, and sleep in their gets.
+/// Returns the median and the 95th percentile of the nanoseconds from a return until the get that
+/// waits for it returns.
 pub fn woken(rounds: u64) -> Option<String> {
     let pool = pool(1, false, true);
     let start = Instant::now();
@@ -83,14 +84,15 @@ pub fn woken(rounds: u64) -> Option<String> {
     Some(format!("{} {most}", all[all.len() / 2]))
 }
 
-/// The answer of a run.
+/// Returns the result of a run. None if there is no such mode.
 pub fn answer(run: &Run) -> Option<u64> {
+    let pool = |check, limits| pool(run.size, check, limits);
     match run.mode.as_str() {
-        "hand" => Some(rounds(&pool(run.size, false, true), run.count)),
-        "free" => Some(rounds(&pool(run.size, false, false), run.count)),
-        "check" => Some(rounds(&pool(run.size, true, true), run.count)),
-        "threads" => Some(shared(&pool(run.size, false, true), run.count, run.threads)),
-        "threads-check" => Some(shared(&pool(run.size, true, true), run.count, run.threads)),
+        "hand" => Some(rounds(&pool(false, true), run.count)),
+        "free" => Some(rounds(&pool(false, false), run.count)),
+        "check" => Some(rounds(&pool(true, true), run.count)),
+        "threads" => Some(shared(&pool(false, true), run.count, run.threads)),
+        "threads-check" => Some(shared(&pool(true, true), run.count, run.threads)),
         _ => None,
     }
 }
