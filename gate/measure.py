@@ -3,7 +3,7 @@
 
 It looks each half second at the checks that the command started, and adds up the processor time of each crate's proof, tests and edits. At the
 end it prints the sum, the minutes of the wall, the processors, and a line for each crate: minutes of one processor for its proof, its tests and
-the checks of its edits, and how many checks those were. With --write the lines go to gate/costs.txt, where what the command did not measure stays
+the checks of its edits, and how many checks those were. Every five minutes of an `rt ci` it says how far that is, by gate/model.py. With --write the lines go to gate/costs.txt, where what the command did not measure stays
 as it was: `rt ci` knows no edits, gate/edits/run no whole proofs. The command's own output goes through, and its status is the answer.
 """
 import os
@@ -12,6 +12,8 @@ import subprocess
 import sys
 import time
 from collections import Counter
+
+import model
 
 TICK = os.sysconf("SC_CLK_TCK")
 
@@ -86,13 +88,37 @@ def write(lines):
         it.writelines([*remarks, *(f"{line}\n" for line in lines)])
 
 
+class Progress:
+    """Says every five minutes how many proofs and tests of crates ended, and how long the rest takes."""
+
+    def __init__(self):
+        tasks = model.tasks_of(model.crates())
+        self.costs = {key: cost for key, (_, _, cost) in tasks.items() if cost}
+        self.wall, _ = model.run(tasks, os.cpu_count())
+        self.begun, self.told = time.time(), 0
+
+    def tell(self, seen, running):
+        """Takes (crate, kind) of all checks so far, and of those that run."""
+        minutes = int(time.time() - self.begun) // 60
+        if minutes < self.told + 5:
+            return
+        self.told = minutes
+        ended = [key for key in self.costs if key in seen and key not in running]
+        left = self.wall * (1 - sum(map(self.costs.get, ended)) / sum(self.costs.values()))
+        print(f"measure: {minutes} minutes, {len(ended)} of {len(self.costs)} proofs and tests of crates ended, "
+              f"about {left:.0f} minutes left", flush=True)
+
+
 def main():
     is_written, command = sys.argv[1:2] == ["--write"], sys.argv[1:]
     begun, seen = time.time(), {}
     running = subprocess.Popen(command[is_written:])
+    progress = Progress() if command[is_written:][:2] == ["rt", "ci"] else None
     while running.poll() is None:
-        for process, crate, kind, seconds in checks(running.pid):
-            seen[process] = crate, kind, seconds
+        now = list(checks(running.pid))
+        seen.update((process, (crate, kind, seconds)) for process, crate, kind, seconds in now)
+        if progress:
+            progress.tell({key[:2] for key in seen.values()}, {key[1:3] for key in now})
         time.sleep(0.5)
     minutes = sum(seconds for _, _, seconds in seen.values()) / 60
     print(f"{minutes:.0f} minutes of one processor, {(time.time() - begun) / 60:.0f} of the wall, {os.cpu_count()} processors")
