@@ -1,4 +1,5 @@
--- The pool that a building answers is made of what was planned, and its error is one that may end it.
+-- The pool that a building answers is made of what was planned, and its error is one that may end
+-- it.
 use Rattle.std.proofs.Common.{◌≡◌, Result, Ok, Err, IfOk, IfErr, refl, sym, ◌∙◌}
 use Rattle.std.specs.Prelude.{List, ⊤}
 use Rattle.std.specs.Arc.{arc_value}

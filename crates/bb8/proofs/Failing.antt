@@ -1,4 +1,5 @@
--- An error with which the opening of a pool's first connections fails is one that its manager or its customizer answered.
+-- An error with which the opening of a pool's first connections fails is one that its manager or
+-- its customizer answered.
 use Rattle.std.proofs.Common.{◌≡◌, ℕ, ◌-◌, ◌<◌, Bool, true, false, Option, Some, None, Result, Ok, Err, List, [], ◌∷◌, ◌⊎◌, inl, inr, refl, sym, ◌∙◌, ap, subst}
 use Rattle.std.proofs.lemmas.Bool.{cases_lt}
 use Rattle.std.specs.Prelude.{⊤}
@@ -83,7 +84,8 @@ module _ {T E X : Type 0} (polls : T → X → ReplenishAnswer E → T → X →
     pub ended : (ts : List T) (x x' : X) (r : Round (List T) E) → IsBy x → Rounds polls sinks lets_go ts x r x' → Ended Known r
     ended ts x x' r is (stopped, left, x1, p, a) = over stopped left x1 x' r (until ts left x x1 stopped is p) a
 
--- the tasks of a pool, by the calls of its manager and its customizer, which leave the calls as they are
+-- the tasks of a pool, by the calls of its manager and its customizer, which leave the calls as
+-- they are
 module _ {G L M S Z K R C E N V A : Type 0} {manager : ManagerOf M C E N V} {d : DebugOf E} {s : SinkOf S E} {z : CustomizerOf Z C E A} {k : ClockOf K} {l : PartsOf L}
     (shared : Shared G L M S Z K R C E N V A manager d s z k l) where
   -- what may fail an opening
@@ -208,7 +210,8 @@ module _ {G L M S Z K R C E N V A : Type 0} {manager : ManagerOf M C E N V} {d :
 
 module _ {G L M S Z K R C E N V A : Type 0} {manager : ManagerOf M C E N V} {d : DebugOf E} {s : SinkOf S E} {z : CustomizerOf Z C E A} {k : ClockOf K} {l : PartsOf L}
     (shared : Shared G L M S Z K R C E N V A manager d s z k l) where
-  -- a round of a pool's first tasks that failed had its error of the pool's manager or its customizer
+  -- a round of a pool's first tasks that failed had its error of the pool's manager or its
+  -- customizer
   pub round_failed : (tasks : List (Replenish C N A)) (r : Round (List (Replenish C N A)) E) → OwnRounds shared tasks r
       → Ended (λ e. IsBuildError (manager.connect_answers shared.manager) (z.acquire_answers shared.customizer) (User e)) r
   round_failed tasks r (x, x', (is, free, silent), (at, x1, told, rounds)) =

@@ -1,4 +1,5 @@
--- What a list of guards is after a lend: what its type says of it holds in one way, so lists with the same fields are the same.
+-- What a list of guards is after a lend: what its type says of it holds in one way, so lists with
+-- the same fields are the same.
 use Rattle.std.proofs.Common.{◌≡◌, ◌≤◌, inl, inr, vec_len}
 use Rattle.std.proofs.Math.Bridge.{le_prop}
 use Rattle.std.proofs.Math.Nat.{ℕ_set}

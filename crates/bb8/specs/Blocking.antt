@@ -1,4 +1,5 @@
--- What callers see of a get for which a thread waits, and of one that is served at once or not at all.
+-- What callers see of a get for which a thread waits, and of one that is served at once or not at
+-- all.
 use Rattle.std.specs.Prelude.{◌≡◌, ℕ, Option, Some, None, Result, Ok, Err, ⊤}
 use Rattle.std.specs.Arc.{arc_value}
 use Rattle.bb8_types.specs.declared.api.errors.RunError.{RunError}
@@ -35,7 +36,8 @@ module _ {G L M S Z K R C E N V A : Type 0} {m : ManagerOf M C E N V} {d : Debug
       (given : Result (Option (Taken C (Part L))) (RunError E)) × OwnTakesNow (arc_value pool.shared) given
       × MakesGuard (MakesSome (Guards (arc_value pool.shared))) given out
 
-  -- what was given to a get that has a handle: a guard takes the handle along, and with an error it leaves
+  -- what was given to a get that has a handle: a guard takes the handle along, and with an error it
+  -- leaves
   abbrev pub EndsOwned : BareHandle G L M S Z K R C E N V A m d s z k l → Result (Taken C (Part L)) (RunError E) → Result (OwnedConnection G L M S Z K R C E N V A m d s z k l) (RunError E) → Type 0
   EndsOwned holding (Ok taken) out = out ≡ Ok (record { holding = holding; taken = taken })
   EndsOwned holding (Err e) out = (out ≡ Err e) × OwnLeaves (arc_value holding.shared)

@@ -30,7 +30,8 @@ use Rattle.bb8_lock.specs.Words.{ManagerOf, DebugOf, SinkOf, CustomizerOf, Clock
 use Rattle.bb8.specs.Pools.{clock_in, customizer_in, made_in, manager_in, settings_in, sink_in}
 
 module _ {G L M S Z K R C E N V A : Type 0} {m : ManagerOf M C E N V} {d : DebugOf E} {s : SinkOf S E} {z : CustomizerOf Z C E A} {k : ClockOf K} {l : PartsOf L} {p : LedgerOf L} where
-  -- The pool has what was planned, and began as this was granted for its first connections, at a reading of the clock.
+  -- The pool has what was planned, and began as this was granted for its first connections, at a
+  -- reading of the clock.
   pub record IsOpened (plan : Plan G L M S Z K R C E N V A m d s z k l p) (claimed : Bool) (pool : Pool G L M S Z K R C E N V A m d s z k l) (grant : Grant) : Type 0 where
     pub settings : settings_in pool ≡ plan.builder.settings
     pub first : HasBegun C (λ at. k.tells plan.clock at × (made_in pool ≡ at)) plan.builder.settings claimed grant
@@ -77,7 +78,8 @@ module _ {G L M S Z K R C E N V A : Type 0} {m : ManagerOf M C E N V} {d : Debug
   abbrev pub GivesBuilding : Building G L M S Z K R C E N V A m d s z k l p → Result (Pool G L M S Z K R C E N V A m d s z k l) (RunError E) → Type 0
   GivesBuilding building out = Answers PollsStage building.stage out
 
-  -- when a building that stands here is to be polled: at once before its first poll, and then as soon as one of its tasks is
+  -- when a building that stands here is to be polled: at once before its first poll, and then as
+  -- soon as one of its tasks is
   abbrev pub due_at : BuildingStage (Plan G L M S Z K R C E N V A m d s z k l p) (Pool G L M S Z K R C E N V A m d s z k l) (List (Replenish C N A)) → Option Moment
   due_at (Planned plan) = Some (record { 0 = 0 })
   due_at (Opening pool tasks) = earliest None tasks
@@ -95,8 +97,9 @@ module _ {G L M S Z K R C E N V A : Type 0} {m : ManagerOf M C E N V} {d : Debug
   abbrev pub CancelsBuilding : Building G L M S Z K R C E N V A m d s z k l p → Type 0
   CancelsBuilding building = EndsAt building.stage
 
--- What a building may fail with, by the answers that the polls of an opening and those of a preparation may give: an error with which an
--- opening or a preparation was answered, or that memory was refused.
+-- What a building may fail with, by the answers that the polls of an opening and those of a
+-- preparation may give: an error with which an opening or a preparation was answered, or that
+-- memory was refused.
 abbrev pub IsBuildError : {C E N A : Type 0} → (N → Moment → Poll (Result C E) → N → Type 0) → (C → A → Moment → Poll (Result (Unit {0}) E) → C → A → Type 0) → RunError E → Type 0
 IsBuildError {C = C} {N = N} {A = A} Opens Prepares (errors.User e) =
     ((v : N) × (at : Moment) × (v' : N) × Opens v at (Ready (Err e)) v')

@@ -24,14 +24,15 @@ use Rattle.bb8.specs.Pools.{made_in, settings_in}
 abbrev pub one_more : ℕ → ℕ
 one_more n = min (n + 1) (2 ^ 64 - 1)
 
--- How long a driver's thread sleeps after a turn at a moment, in nanoseconds: until something is due, a millisecond at least, and no longer than so
--- long.
+-- How long a driver's thread sleeps after a turn at a moment, in nanoseconds: until something is
+-- due, a millisecond at least, and no longer than so long.
 abbrev pub driver_rest : Option Moment → ℕ → ℕ → ℕ
 driver_rest (Some due) now longest = min (max (due.0 - now) 1000000) longest
 driver_rest None now longest = longest
 
--- What is told of a run of turns after so many: a turn that ended is the last one; after any other one the gate is asked, and where it does not
--- pause the run stops. Else the thread sleeps, unless the bell has rung since it was counted, and the next turn follows.
+-- What is told of a run of turns after so many: a turn that ended is the last one; after any other
+-- one the gate is asked, and where it does not pause the run stops. Else the thread sleeps, unless
+-- the bell has rung since it was counted, and the next turn follows.
 pub data Runs {T P : Type 0} (turns : T → ℕ → Moment → Turn → T → Type 0) (pauses : P → Bool → P → Type 0)
     (sleeps : ℕ → Moment → T → T → Type 0) : T → P → ℕ → Driven → T → Type 0 where
   ends : (t t' : T) (rings : ℕ) (at : Moment) (g : P) (n : ℕ) (turn : Turn) (d : Driven) → turns t rings at turn t' → turn.ended ≡ true
@@ -49,7 +50,8 @@ TurnsOnce {X = X} home opener rests timeout retry before rings at turn after =
     (x1 : X) × (x2 : X) × rests.counts before.1 Sleeping rings x1 × opener.tells x1 at x2
     × DriverTurns home opener timeout retry at before.0 x2 turn after.0 after.1
 
--- the thread sleeps by that bell until something is due, and no longer than some bound; that it is the gate's no clause says
+-- the thread sleeps by that bell until something is due, and no longer than some bound; that it is
+-- the gate's no clause says
 abbrev pub SleepsOnce : {C V A X : Type 0} → RestsOf X → ℕ → Moment → Turning C V A × X → Turning C V A × X → Type 0
 SleepsOnce rests rings at before after =
     (longest : ℕ) × rests.sleeps before.1 Sleeping rings (driver_rest (driver_due before.0) at.0 longest) after.1
@@ -69,7 +71,8 @@ module _ {G L M S Z K R C E N V A : Type 0} {m : ManagerOf M C E N V} {d : Debug
   abbrev pub has_ended : Driver G L M S Z K R C E N V A m d s z k l → Bool
   has_ended driver = is_ended driver.turning
 
-  -- the driver is of that pool, and made no turn yet; the ticks of its reaper count from the moment at which the pool was made
+  -- the driver is of that pool, and made no turn yet; the ticks of its reaper count from the moment
+  -- at which the pool was made
   abbrev pub IsDriverOf : Driver G L M S Z K R C E N V A m d s z k l → Pool G L M S Z K R C E N V A m d s z k l → Type 0
   IsDriverOf driver pool = (arc_value driver.shared ≡ arc_value pool.shared) × DriverBegins (settings_in pool) (made_in pool) driver.turning
 

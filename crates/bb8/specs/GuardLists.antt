@@ -1,5 +1,5 @@
--- What callers see of a list of guards: the connections that its guards hold, in order, how many they are, how many they may be, and what its
--- drop does.
+-- What callers see of a list of guards: the connections that its guards hold, in order, how many
+-- they are, how many they may be, and what its drop does.
 use Rattle.std.specs.Prelude.{◌≡◌, ℕ, List, vec_len}
 use Rattle.std.specs.Arc.{arc_value}
 use Rattle.std.specs.List.{AllZip}

@@ -14,15 +14,17 @@ use Rattle.bb8_lock.specs.declared.locked.Parts.{Ghosts as PartsOf}
 use Rattle.bb8_lock.specs.Words.{ManagerOf, DebugOf, SinkOf, CustomizerOf, ClockOf}
 
 module _ {G L M S Z K R C E N V A : Type 0} {m : ManagerOf M C E N V} {d : DebugOf E} {s : SinkOf S E} {z : CustomizerOf Z C E A} {k : ClockOf K} {l : PartsOf L} where
-  -- What is told of the making of a handle: one more is of the same pool. Where as many are alive as may be, or none is, it is refused.
+  -- What is told of the making of a handle: one more is of the same pool. Where as many are alive
+  -- as may be, or none is, it is refused.
   abbrev pub IsToldHandle : Shared G L M S Z K R C E N V A m d s z k l → Joining Handle → Result (BareHandle G L M S Z K R C E N V A m d s z k l) (RunError E) → Type 0
   IsToldHandle shared (joining.Joined handle) (Ok holding) = arc_value holding.shared ≡ shared
   IsToldHandle shared joining.Exhausted (Err errors.Exhausted) = ⊤
   IsToldHandle shared joining.Unfit (Err errors.Exhausted) = ⊤
   IsToldHandle shared _ _ = ⊥
 
-  -- The making of one more handle: some state of the pool's settings counts it or refuses it, at a reading of the clock, and the caller is told
-  -- so. Of one that is refused for want of memory nothing is said here.
+  -- The making of one more handle: some state of the pool's settings counts it or refuses it, at a
+  -- reading of the clock, and the caller is told so. Of one that is refused for want of memory
+  -- nothing is said here.
   abbrev pub IsHandleOf : Shared G L M S Z K R C E N V A m d s z k l → Result (BareHandle G L M S Z K R C E N V A m d s z k l) (RunError E) → Type 0
   IsHandleOf shared (Err errors.Memory) = ⊤
   IsHandleOf shared result =

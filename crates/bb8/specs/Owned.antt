@@ -25,7 +25,8 @@ module _ {G L M S Z K R C E N V A : Type 0} {m : ManagerOf M C E N V} {d : Debug
   abbrev pub with_connection : OwnedConnection G L M S Z K R C E N V A m d s z k l → C → OwnedConnection G L M S Z K R C E N V A m d s z k l
   with_connection guard connection = record guard { taken = record guard.taken { connection = connection } }
 
-  -- a get with a handle of its own is let go: it is given up, where it began and was not answered, and then the handle leaves
+  -- a get with a handle of its own is let go: it is given up, where it began and was not answered,
+  -- and then the handle leaves
   abbrev pub CancelsOwned : Option (OwnedStage G L M S Z K R C E N V A m d s z k l) → Type 0
   CancelsOwned None = ⊤
   CancelsOwned (Some (Refused e)) = ⊤
@@ -37,7 +38,8 @@ module _ {G L M S Z K R C E N V A : Type 0} {m : ManagerOf M C E N V} {d : Debug
   BeginsOwned pool (Some (Refused e)) = IsHandleOf (arc_value pool.shared) (Err e)
   BeginsOwned pool (Some (Open holding get)) = IsHandleOf (arc_value pool.shared) (Ok holding) × (get.stage ≡ Fresh)
 
-  -- After a poll on the pool's lock. A guard takes the handle along; with an error the handle leaves.
+  -- After a poll on the pool's lock. A guard takes the handle along; with an error the handle
+  -- leaves.
   abbrev pub AfterOwned : BareHandle G L M S Z K R C E N V A m d s z k l → GetState C V (Part L) → Poll (Result (Taken C (Part L)) (RunError E))
       → Poll (Result (OwnedConnection G L M S Z K R C E N V A m d s z k l) (RunError E)) → Option (OwnedStage G L M S Z K R C E N V A m d s z k l) → Type 0
   AfterOwned holding get Pending r after = (r ≡ Pending) × (after ≡ Some (Open holding get))

@@ -31,8 +31,8 @@ pub record EachTold {T : Type 0} (Tells : ℕ → T → Type 0) (threads : ℕ) 
   pub all : length told ≡ threads
   pub each : (thread : ℕ) (x : T) → thread < threads → Tells thread (slice_index_or told thread x)
 
--- What may come of a service over a pool of that basis, in so many threads: it stopped as it began, or it began, so many threads ran, and
--- it ended with what they told.
+-- What may come of a service over a pool of that basis, in so many threads: it stopped as it began,
+-- or it began, so many threads ran, and it ended with what they told.
 abbrev pub IsOutcome : {B T O : Type 0} → (B → Result (Unit {0}) O → Type 0) → (B → ℕ → T → Type 0) → (B → List T → O → Type 0) → B → ℕ → O → Type 0
 IsOutcome {T = T} Begins Tells Ends basis threads outcome =
     Begins basis (Err outcome)

@@ -12,11 +12,12 @@ use std::marker::Brand;
 use std::sync::Wait;
 use std::sync::ledger::Blank;
 
-/// What one thread does with a pool and a driver of it, by whatever parts `L` the connections that are out are counted.
-/// `Builder::with_pool` runs it.
+/// What one thread does with a pool and a driver of it, by whatever parts `L` the connections that
+/// are out are counted. `Builder::with_pool` runs it.
 ///
-/// As in a `Service`, its method calls the pool by `PoolCalls` and the driver by `DriverCalls`. Its ghost members are relations between
-/// what it was given and what it answers, with what the pool was built of; one that is left out allows everything.
+/// As in a `Service`, its method calls the pool by `PoolCalls` and the driver by `DriverCalls`. Its
+/// ghost members are relations between what it was given and what it answers, with what the pool
+/// was built of; one that is left out allows everything.
 pub trait User<
     M: ManageConnection,
     S: ErrorSink<M::Error>,
@@ -76,11 +77,12 @@ impl<
     S: ErrorSink<M::Error>,
     Z: CustomizeConnection<M::Connection, M::Error>,
 > Builder<M, S, Z> {
-    /// Builds a pool as `build_unchecked` does, with parts of its own, and runs a user over it and a driver of it, in this thread. Then
-    /// both are dropped.
+    /// Builds a pool as `build_unchecked` does, with parts of its own, and runs a user over it and
+    /// a driver of it, in this thread. Then both are dropped.
     ///
-    /// No thread is started and nothing is waited for: a connection is opened where the user turns the driver. For small programs, and
-    /// for tests on a `SetClock`. It fails only where the pool or its driver was refused memory; then the user did not run.
+    /// No thread is started and nothing is waited for: a connection is opened where the user turns
+    /// the driver. For small programs, and for tests on a `SetClock`. It fails only where the pool
+    /// or its driver was refused memory; then the user did not run.
     pub fn with_pool<
         K: Clock,
         R: Wait + AllocGlobal + Send + Sync + Drop + 'static,

@@ -117,15 +117,20 @@ impl<G: Given<Runtime: Wait + AllocGlobal>, L: Parts> MakesPool for Plan<G, L> {
     }
 }
 
-/// What `Builder::build` answers: the building of a pool that has its first connections. It does nothing until it is polled.
+/// What `Builder::build` answers: the building of a pool that has its first connections. It does
+/// nothing until it is polled.
 ///
-/// The first poll makes the pool at the clock's moment, with approvals for as many connections as `min_idle` asks for. Each poll, the first
-/// too, reads the clock and polls the opening of each connection that is not there yet, once and in the order of the approvals. An opening
-/// that failed is tried again where `retry_connection` is set, as long as `connection_timeout` allows; the error of each such try goes to
-/// the error sink. The first failure of a last try ends the building.
+/// The first poll makes the pool at the clock's moment, with approvals for as many connections as
+/// `min_idle` asks for. Each poll, the first too, reads the clock and polls the opening of each
+/// connection that is not there yet, once and in the order of the approvals. An opening that failed
+/// is tried again where `retry_connection` is set, as long as `connection_timeout` allows; the
+/// error of each such try goes to the error sink. The first failure of a last try ends the
+/// building.
 ///
-/// One that is pending asks to be polled again at once; `BuildingCalls::wait` sleeps between its polls. When it is dropped before its answer, its approvals are given back and its pool is
-/// dropped. Manager, customizer, sink and clock are called while the pool's lock is free. Upstream's is an async function.
+/// One that is pending asks to be polled again at once; `BuildingCalls::wait` sleeps between its
+/// polls. When it is dropped before its answer, its approvals are given back and its pool is
+/// dropped. Manager, customizer, sink and clock are called while the pool's lock is free.
+/// Upstream's is an async function.
 pub struct Building<G: Given, L: Parts> {
     stage: BuildingStage<Plan<G, L>, Pool<G, L>, Tasks<G::Connection, G::Connecting, G::Acquiring>>,
 }
@@ -137,11 +142,14 @@ impl<
 > Builder<M, S, Z> {
     ghost use Rattle.bb8.specs.Buildings.{IsPlanned};
 
-    /// A pool that has its first connections, as many as `min_idle` asks for, once the building is polled to its end.
+    /// A pool that has its first connections, as many as `min_idle` asks for, once the building is
+    /// polled to its end.
     ///
-    /// As upstream, but that the clock and the runtime are handed in, with a blank of `max_size` parts, and that memory can be refused. It
-    /// answers `User` with the error of the first opening that failed for good, and `Memory` where memory was refused, for the pool, for one
-    /// of its first approvals or for their tasks; then all is dropped. The settings have to be lawful, where upstream panics.
+    /// As upstream, but that the clock and the runtime are handed in, with a blank of `max_size`
+    /// parts, and that memory can be refused. It answers `User` with the error of the first opening
+    /// that failed for good, and `Memory` where memory was refused, for the pool, for one of its
+    /// first approvals or for their tasks; then all is dropped. The settings have to be lawful,
+    /// where upstream panics.
     pub fn build<K: Clock, R: Locks, L: Parts>(
         self,
         manager: M,
@@ -220,7 +228,8 @@ impl<G: Given, L: Parts> Drop for Building<G, L> {
     }
 }
 
-/// A round of a pool's first tasks, as a method of an impl, so that the poll of a future can call it.
+/// A round of a pool's first tasks, as a method of an impl, so that the poll of a future can call
+/// it.
 trait OpensFirst {
     type Tasks;
 
@@ -280,7 +289,8 @@ trait Builds {
     /// One poll.
     fn step(&mut self) -> Poll<Self::Answer>;
 
-    /// Sleeps until an opening is to be polled, and 50 milliseconds at most; a millisecond where one was pending.
+    /// Sleeps until an opening is to be polled, and 50 milliseconds at most; a millisecond where
+    /// one was pending.
     fn rest(&self);
 }
 
@@ -343,17 +353,20 @@ impl<G: Given<Runtime: Wait + AllocGlobal>, L: Parts> Builds for Building<G, L> 
     }
 }
 
-/// The calls of a building beside its polls, as methods of an impl, so that code that a thread runs can make them.
+/// The calls of a building beside its polls, as methods of an impl, so that code that a thread runs
+/// can make them.
 pub trait BuildingCalls {
     /// What it answers at last.
     type Answer;
 
-    /// When a poll next has something to do: once an opening has slept after a try that failed; or at once, which is a moment that has
-    /// passed, before the first poll and while an opening is pending. None is never.
+    /// When a poll next has something to do: once an opening has slept after a try that failed; or
+    /// at once, which is a moment that has passed, before the first poll and while an opening is
+    /// pending. None is never.
     fn next_due(&self) -> Option<Moment>;
 
-    /// Polls it until it answers. Between two polls the pool's clock is read once more, and the thread sleeps until something is due, and
-    /// 50 milliseconds at most; where an opening was pending, a millisecond.
+    /// Polls it until it answers. Between two polls the pool's clock is read once more, and the
+    /// thread sleeps until something is due, and 50 milliseconds at most; where an opening was
+    /// pending, a millisecond.
     fn wait(self, rt: &impl Wait) -> Self::Answer;
 }
 

@@ -11,8 +11,9 @@ use std::mem;
 
 /// What `Pool::dedicated_connection` answers: an opening that does nothing until it is polled.
 ///
-/// Each poll reads the pool's clock, and none takes the pool's lock. One that is pending asks to be polled again at once. When it is
-/// dropped before its answer, what it holds is dropped. Upstream's is an async function.
+/// Each poll reads the pool's clock, and none takes the pool's lock. One that is pending asks to be
+/// polled again at once. When it is dropped before its answer, what it holds is dropped. Upstream's
+/// is an async function.
 pub struct DedicatedFuture<'a, G: Given, L: Parts> {
     pub(crate) shared: &'a Shared<G, L>,
     pub(crate) latest: Moment,
@@ -54,7 +55,8 @@ impl<'a, G: Given, L: Parts> Future for DedicatedFuture<'a, G, L> {
 
     ghost gives = { λ future out. GivesDedicated future out };
 
-    /// One poll at the greatest reading of the clock so far. It is pending while the manager or the customizer is, and after its answer.
+    /// One poll at the greatest reading of the clock so far. It is pending while the manager or the
+    /// customizer is, and after its answer.
     fn poll(&mut self, cx: &mut Context<'_>) -> Poll<Self::Output>
         ensures table { PollsDedicated self.old result self.new }
         ensures pool { self.new.shared.now ≡ self.old.shared.now }

@@ -17,13 +17,15 @@ use std::sync::{Arc, Wait};
 use std::thread::{JoinHandle, Threads};
 use std::time::Duration;
 
-/// Opens the connections that a pool approved, and reaps those that idled or lived too long, at its turns. Upstream spawns a task
-/// for each opening, and one that reaps.
+/// Opens the connections that a pool approved, and reaps those that idled or lived too long, at its
+/// turns. Upstream spawns a task for each opening, and one that reaps.
 ///
-/// A driver holds no handle of its pool, and a pool may have several. Whoever has one makes its turns (`turn`), or hands it to a thread
-/// (`drive`). It has a reaper where `max_lifetime` or `idle_timeout` is set, whose ticks count from the moment at which the pool was made.
+/// A driver holds no handle of its pool, and a pool may have several. Whoever has one makes its
+/// turns (`turn`), or hands it to a thread (`drive`). It has a reaper where `max_lifetime` or
+/// `idle_timeout` is set, whose ticks count from the moment at which the pool was made.
 ///
-/// When it is dropped it reads the pool's clock, and the approvals of its tasks are given back under the pool's lock, for which it may wait.
+/// When it is dropped it reads the pool's clock, and the approvals of its tasks are given back
+/// under the pool's lock, for which it may wait.
 pub struct Driver<G: Given, L: Parts> {
     shared: Arc<Shared<G, L>, Global>,
     turning: Turning<G::Connection, G::Connecting, G::Acquiring>,
@@ -38,8 +40,9 @@ pub trait Gate {
     fn pause(&mut self) -> bool
         ensures { pauses self.old result self.new };
 
-    /// How long the thread may then sleep, where nothing wakes it: 50 milliseconds, unless the implementer says otherwise. A pool whose clock
-    /// is not the machine's, or goes otherwise than it, may ask for less.
+    /// How long the thread may then sleep, where nothing wakes it: 50 milliseconds, unless the
+    /// implementer says otherwise. A pool whose clock is not the machine's, or goes otherwise than
+    /// it, may ask for less.
     fn longest(&self) -> Duration {
         Duration::from_millis(50)
     }
@@ -55,7 +58,8 @@ pub struct Driven {
 }
 
 impl<G: Given<Runtime: Wait + AllocGlobal>, L: Parts> Driver<G, L> {
-    /// A driver of the pool, which made no turn yet. It fails only where sharing the pool was refused memory.
+    /// A driver of the pool, which made no turn yet. It fails only where sharing the pool was
+    /// refused memory.
     pub fn new(pool: &Pool<G, L>) -> Result<Self, Memory>
         ensures { IfOk result (λ driver. IsDriverOf driver pool.now) }
     {
@@ -68,8 +72,9 @@ impl<G: Given<Runtime: Wait + AllocGlobal>, L: Parts> Driver<G, L> {
 /// How long a driver's thread sleeps at least, in nanoseconds, unless its gate asks for less.
 const SHORTEST_REST: u64 = 1_000_000;
 
-/// How long a driver's thread may sleep after a turn at a moment: until something is due, and no longer than that. Where that has passed, as it
-/// has for each task whose opening was pending, it is a millisecond.
+/// How long a driver's thread may sleep after a turn at a moment: until something is due, and no
+/// longer than that. Where that has passed, as it has for each task whose opening was pending, it
+/// is a millisecond.
 pub(crate) fn rest(due: Option<Moment>, at: Moment, longest: Duration) -> Duration
     ensures { as_nanos result ≡ driver_rest due at.0 (as_nanos longest) }
 {
@@ -86,20 +91,25 @@ pub(crate) fn rest(due: Option<Moment>, at: Moment, longest: Duration) -> Durati
 
 /// The turns of a driver.
 pub trait DriverCalls {
-    /// One turn at a moment, in nanoseconds of the pool's clock; for each step it may wait for the pool's lock.
+    /// One turn at a moment, in nanoseconds of the pool's clock; for each step it may wait for the
+    /// pool's lock.
     ///
-    /// It polls the reaper first. Then it claims the pool's approvals, in the order of their numbers, until none is unclaimed or there is no
-    /// memory for the task of one more, whose approval then stays unclaimed. Then it polls the opening of each approval that it holds
-    /// once, in the order of the claims; those that end are gone, and the error of each try that failed goes to the error sink. Where a
-    /// claim finds no handle alive it polls none, drops what it opens, gives all approvals back, and has ended, as at each later turn.
+    /// It polls the reaper first. After a reap, new approvals are granted for waiting gets whose
+    /// openings were given up. Then it claims the pool's approvals, in the order of their numbers,
+    /// until none is unclaimed or there is no memory for the task of one more, whose approval then
+    /// stays unclaimed. Then it polls the opening of each approval that it holds once, in the order
+    /// of the claims; those that end are gone, and the error of each try that failed goes to the
+    /// error sink. Where a claim finds no handle alive it polls none, drops what it opens, gives
+    /// all approvals back, and has ended, as at each later turn.
     fn turn(&mut self, moment: Moment) -> Turn;
 
     /// One turn at the moment that the pool's clock tells, which is read first.
     fn turn_now(&mut self) -> Turn;
 
-    /// When a turn next has something to do, by what the driver holds: at its reaper's next tick, or earlier where an opening is to be
-    /// polled, be it once it has slept after a try that failed, or at once; that is a moment that has passed. None is never. Approvals that
-    /// were granted since the last turn, and a pool without a handle, are not looked for.
+    /// When a turn next has something to do, by what the driver holds: at its reaper's next tick,
+    /// or earlier where an opening is to be polled, be it once it has slept after a try that
+    /// failed, or at once; that is a moment that has passed. None is never. Approvals that were
+    /// granted since the last turn, and a pool without a handle, are not looked for.
     fn next_due(&self) -> Option<Moment>;
 }
 
@@ -137,9 +147,10 @@ impl<G: Given<Runtime: Wait>, L: Parts> DriverCalls for Driver<G, L> {
 impl<G: Given<Runtime: Wait>, L: Parts> Driver<G, L> {
     ghost use Rattle.bb8.specs.Drivers.{RunsDriver};
 
-    /// Makes turns, each at a reading of the pool's clock, until one has ended or the gate, which is asked after each other one, does not
-    /// pause. Before the next one the thread sleeps until an approval is granted, no handle is alive, or something is due, and no longer
-    /// than the gate lets it; where an opening was pending, a millisecond. Then the driver is dropped.
+    /// Makes turns, each at a reading of the pool's clock, until one has ended or the gate, which
+    /// is asked after each other one, does not pause. Before the next one the thread sleeps until
+    /// an approval is granted, no handle is alive, or something is due, and no longer than the gate
+    /// lets it; where an opening was pending, a millisecond. Then the driver is dropped.
     pub fn run<P: Gate + Drop>(self, gate: P) -> Driven
         ensures { RunsDriver P.pauses self gate result }
     {
@@ -149,8 +160,8 @@ impl<G: Given<Runtime: Wait>, L: Parts> Driver<G, L> {
     }
 }
 
-/// Turns, each at a reading of the clock, until one has ended or the gate does not pause. Between two turns the thread sleeps until the bell is
-/// rung, or something is due.
+/// Turns, each at a reading of the clock, until one has ended or the gate does not pause. Between
+/// two turns the thread sleeps until the bell is rung, or something is due.
 fn run<
     C,
     V,
@@ -240,8 +251,8 @@ impl<G: Given<Runtime: Wait>, L: Parts, P: Gate + Drop> Job for Gated<Driver<G, 
     }
 }
 
-/// Runs a driver in a thread of its own, as `Driver::run` does. Where no thread can be made the driver is dropped. The pool's own runtime
-/// needs no threads.
+/// Runs a driver in a thread of its own, as `Driver::run` does. Where no thread can be made the
+/// driver is dropped. The pool's own runtime needs no threads.
 pub fn drive<
     M: ManageConnection,
     S: ErrorSink<M::Error>,

@@ -1,4 +1,5 @@
-//! The pool's types by manager, error sink, customizer, clock, runtime and parts. In their modules the first five are one parameter.
+//! The pool's types by manager, error sink, customizer, clock, runtime and parts. In their modules
+//! the first five are one parameter.
 use crate::{MachineClock, building, dedicated, driver, get, guards, owned, pool};
 use bb8_core::api::{NopCustomizer, NopErrorSink};
 use bb8_lock::These;
@@ -6,7 +7,8 @@ use bb8_lock::These;
 /// A handle of a pool, `pool::Pool`.
 pub type Pool<M, S, Z, K, R, L> = pool::Pool<These<M, S, Z, K, R>, L>;
 
-/// A handle of a pool without sink and customizer, on the machine's clock: of what `Builder::new()` and `serve` make of `MachineClock`.
+/// A handle of a pool without sink and customizer, on the machine's clock: of what `Builder::new()`
+/// and `serve` make of `MachineClock`.
 pub type PlainPool<M, R, L> = Pool<M, NopErrorSink, NopCustomizer, MachineClock<R>, R, L>;
 
 /// A guard, `pool::PooledConnection`.

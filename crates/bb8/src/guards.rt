@@ -15,8 +15,9 @@ struct Ticket<'a, G: Given, L: Parts> {
     key: Key,
 }
 
-/// A list of guards of one pool, which has at most as many as the pool's `max_size`: its guards' parts say so. When it is dropped it drops
-/// each of its guards, for which it may wait for the lock.
+/// A list of guards of one pool, which has at most as many as the pool's `max_size`: its guards'
+/// parts say so. When it is dropped it drops each of its guards, for which it may wait for the
+/// lock.
 pub struct Guards<'a, G: Given, L: Parts> {
     shared: &'a Shared<G, L>,
     tickets: Vec<Ticket<'a, G, L>>,
@@ -47,10 +48,12 @@ pub trait GuardsCalls: Sized {
     /// Whether there is no guard.
     fn is_empty(&self) -> bool;
 
-    /// Adds a guard at the end. It comes back, and the list is as before, where memory for it was refused.
+    /// Adds a guard at the end. It comes back, and the list is as before, where memory for it was
+    /// refused.
     fn push(&mut self, guard: Self::Guard) -> Result<(), Self::Guard>;
 
-    /// Takes the guard of an index out; the ones behind it move up. None where there is no such index.
+    /// Takes the guard of an index out; the ones behind it move up. None where there is no such
+    /// index.
     fn remove(&mut self, index: usize) -> Option<Self::Guard>;
 
     /// The connection of the guard of an index. None where there is no such index.

@@ -8,7 +8,8 @@ use bb8_lock::{Given, Handle, OpensScope, Parts, Shared, join};
 use std::alloc::Global;
 use std::sync::Arc;
 
-/// A handle beside what it shares with the others of its pool. It cannot be dropped, so whoever lets it go has to say how.
+/// A handle beside what it shares with the others of its pool. It cannot be dropped, so whoever
+/// lets it go has to say how.
 pub(crate) struct BareHandle<G: Given, L: Parts> {
     pub shared: Arc<Shared<G, L>, Global>,
     pub handle: Handle,

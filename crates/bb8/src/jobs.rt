@@ -6,10 +6,11 @@ use bb8_core::api::Memory;
 use std::thread;
 use std::thread::{JoinHandle, Threads, map_indices};
 
-/// What a thread does: a closure that calls a pool gets no proof in a thread of its own, a job does.
+/// What a thread does: a closure that calls a pool gets no proof in a thread of its own, a job
+/// does.
 ///
-/// Its method calls the pool by `PoolCalls`, as those of a `Service` do. The implementer chooses its ghost members, and one that is left
-/// out allows everything.
+/// Its method calls the pool by `PoolCalls`, as those of a `Service` do. The implementer chooses
+/// its ghost members, and one that is left out allows everything.
 pub trait Job {
     /// What it tells at its end.
     type Told;
@@ -30,7 +31,8 @@ pub trait Job {
 #[derive(Clone, Copy, Debug, PartialEq, Eq)]
 pub struct NoThread;
 
-/// Starts a job in a thread of its own, to which this number is given. Where no thread can be made the job is dropped.
+/// Starts a job in a thread of its own, to which this number is given. Where no thread can be made
+/// the job is dropped.
 pub fn start<R: Threads, J: Job + Send + Drop + 'static>(
     threads: &R,
     number: usize,
@@ -46,8 +48,9 @@ where
     }
 }
 
-/// Does a job so many times, with the numbers from 0 on, each in a thread of its own where one can be made, and gives what they tell, in
-/// their order. It fails only where that finds no memory; then some may have run.
+/// Does a job so many times, with the numbers from 0 on, each in a thread of its own where one can
+/// be made, and gives what they tell, in their order. It fails only where that finds no memory;
+/// then some may have run.
 pub fn in_threads<R: Threads + AllocGlobal + Sync, J: Job + Copy + Sync>(
     rt: &R,
     threads: usize,

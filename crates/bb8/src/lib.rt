@@ -1,10 +1,12 @@
-//! A pool of connections: its builder, and all that `bb8_core` gives to a user. What is bb8's of Rust ("upstream") says so; all else has no
-//! counterpart there.
+//! A pool of connections: its builder, and all that `bb8_core` gives to a user. What is bb8's of
+//! Rust ("upstream") says so; all else has no counterpart there.
 //!
-//! A program whose threads share a pool has three parts: a manager, which opens and checks connections (`ManageConnection`); a service,
-//! which says what is done before the threads run, in each, and after them (`Service`); and a `main`, which builds the pool and runs the
-//! service over it (`Builder::serve`). No proof file belongs to them. `./new NAME` at the top of the repository makes such a program, with its
-//! line of `crates.txt`, `NAME: bb8 bb8_blocking`. `crates/bb8_service` is one over the kit's `sqlite`. Its `main` has
+//! A program whose threads share a pool has three parts: a manager, which opens and checks
+//! connections (`ManageConnection`); a service, which says what is done before the threads run, in
+//! each, and after them (`Service`); and a `main`, which builds the pool and runs the service over
+//! it (`Builder::serve`). No proof file belongs to them. `./new NAME` at the top of the repository
+//! makes such a program, with its line of `crates.txt`, `NAME: bb8 bb8_blocking`.
+//! `crates/bb8_service` is one over the kit's `sqlite`. Its `main` has
 //!
 //! ```text
 //! let outcome = Builder::new()
@@ -19,8 +21,9 @@
 //! let mut guard = pool.get_blocking().ok()?;
 //! ```
 //!
-//! The calls are in scope by `use bb8::{Cancel, Gets, PoolCalls}`. A program for one thread, or a test, is a `User` of `Builder::with_pool`.
-//! Each call, and a pool whose threads and parts are in one's own hands: `docs/CALLING.md`.
+//! The calls are in scope by `use bb8::{Cancel, Detach, Gets, PoolCalls}`. A program for one
+//! thread, or a test, is a `User` of `Builder::with_pool`. Each call, and a pool whose threads and
+//! parts are in one's own hands: `docs/CALLING.md`.
 #![tactic(auto)]
 
 mod alone;
@@ -59,6 +62,6 @@ pub use guards::GuardsCalls;
 pub use jobs::{Job, NoThread, in_threads, start};
 pub use machine::{MachineClock, Runtime};
 pub use memory::OrMemory;
-pub use pool::{Cancel, Gets, PoolCalls};
+pub use pool::{Cancel, Detach, Gets, PoolCalls};
 pub use printing::{ErrorLine, PrintingSink};
 pub use serving::Service;

@@ -12,8 +12,8 @@ impl From<NoThread> for Memory {
     }
 }
 
-/// `call.or_memory()?` passes a refusal of memory on from a function that answers `RunError`, whose `?` takes each other error for the
-/// manager's own.
+/// `call.or_memory()?` passes a refusal of memory on from a function that answers `RunError`, whose
+/// `?` takes each other error for the manager's own.
 pub trait OrMemory {
     /// What the call answers where nothing was refused.
     type Value;

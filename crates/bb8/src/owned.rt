@@ -3,10 +3,12 @@ ghost use Rattle.std.specs.Prelude.{◌≡◌};
 ghost use Rattle.std.specs.Arc.{arc_value};
 
 use crate::handles::BareHandle;
-use crate::pool::Cancel;
+use crate::pool::{Cancel, Detach};
 use bb8_core::api::RunError;
 use bb8_gets::{GetState, Taken};
-use bb8_lock::{Given, OpensScope, Part, Parts, cancel_and_leave, give_back_and_leave, leave};
+use bb8_lock::{
+    Given, OpensScope, Part, Parts, cancel_and_leave, detach_and_leave, give_back_and_leave, leave,
+};
 use futures::Future;
 use futures::task::{Context, Poll};
 use std::fmt::{Debug, Formatter};
@@ -14,10 +16,11 @@ use std::ops::{Deref, DerefMut};
 use std::sync::Wait;
 use std::{fmt, mem};
 
-/// A guard that has a handle of its own, so that its pool lives as long as the guard does. It dereferences to the connection. Upstream's
-/// `PooledConnection<'static>`.
+/// A guard that has a handle of its own, so that its pool lives as long as the guard does. It
+/// dereferences to the connection. Upstream's `PooledConnection<'static>`.
 ///
-/// When it is dropped it gives the connection back as `PooledConnection` does, and then its handle leaves.
+/// When it is dropped it gives the connection back as `PooledConnection` does, and then its handle
+/// leaves.
 pub struct OwnedConnection<G: Given, L: Parts> {
     pub(crate) holding: BareHandle<G, L>,
     pub(crate) taken: Taken<G::Connection, Part<L>>,
@@ -31,22 +34,26 @@ pub(crate) enum OwnedStage<G: Given, L: Parts> {
     Open(BareHandle<G, L>, GetState<G::Connection, G::Checking, Part<L>>),
 }
 
-/// What `Pool::get_owned` answers: a get with a handle of its own, or why it has none, and nothing once it was answered.
+/// What `Pool::get_owned` answers: a get with a handle of its own, or why it has none, and nothing
+/// once it was answered.
 ///
-/// Each poll is as one of `GetFuture`. When it is dropped before its answer, it gives the get up as cancelled, and its handle leaves; the
-/// handle of one that was served goes with the guard, and that of one that was refused leaves at its answer. Upstream's get is an
-/// async function.
+/// Each poll is as one of `GetFuture`. When it is dropped before its answer, it gives the get up as
+/// cancelled, and its handle leaves; the handle of one that was served goes with the guard, and
+/// that of one that was refused leaves at its answer. Upstream's get is an async function.
 pub struct GetOwnedFuture<G: Given, L: Parts> {
     pub(crate) stage: Option<OwnedStage<G, L>>,
 }
 
-/// What a handle does, and a get or a guard that has one of its own, as methods of an impl, so that polls and drops can call them.
+/// What a handle does, and a get or a guard that has one of its own, as methods of an impl, so that
+/// polls and drops can call them.
 pub(crate) trait OwnedCalls {
     type Get;
 
     type Polled;
 
     type Taken;
+
+    type Connection;
 
     /// One poll of a get.
     fn poll_owned(&self, get: &mut Self::Get) -> Self::Polled;
@@ -62,16 +69,21 @@ pub(crate) trait OwnedCalls {
 
     /// Lets the handle leave.
     fn leave_owned(self);
+
+    /// Takes a connection out of the pool, and then lets the handle leave.
+    fn detach_owned(self, taken: Self::Taken) -> Self::Connection;
 }
 
 impl<G: Given, L: Parts> OwnedCalls for BareHandle<G, L> {
-    ghost use Rattle.bb8_lock.specs.Scope.{OwnCancels, OwnCancelsAndLeaves, OwnLeaves, OwnPolls, OwnReturnsAndLeaves};
+    ghost use Rattle.bb8_lock.specs.Scope.{OwnCancels, OwnCancelsAndLeaves, OwnDetachesAndLeaves, OwnLeaves, OwnPolls, OwnReturnsAndLeaves};
 
     type Get = GetState<G::Connection, G::Checking, Part<L>>;
 
     type Polled = Poll<Result<Taken<G::Connection, Part<L>>, RunError<G::Error>>>;
 
     type Taken = Taken<G::Connection, Part<L>>;
+
+    type Connection = G::Connection;
 
     fn poll_owned(&self, get: &mut Self::Get) -> Self::Polled
         ensures { OwnPolls (arc_value self.now.shared) get.old.stage result get.new.stage }
@@ -110,6 +122,15 @@ impl<G: Given, L: Parts> OwnedCalls for BareHandle<G, L> {
         let pool = &*shared;
         leave(&mut pool.scope(), handle);
     }
+
+    fn detach_owned(self, taken: Self::Taken) -> G::Connection
+        ensures left { OwnDetachesAndLeaves (arc_value self.shared) taken }
+        ensures connection { result ≡ taken.connection }
+    {
+        let BareHandle { shared, handle } = self;
+        let pool = &*shared;
+        detach_and_leave(&mut pool.scope(), taken, handle)
+    }
 }
 
 /// What a poll answers, and the stage then.
@@ -118,7 +139,8 @@ pub(crate) struct OwnedStep<G: Given, L: Parts> {
     stage: Option<OwnedStage<G, L>>,
 }
 
-/// What the future does with its stage, as methods of an impl, so that its poll and its drop can call them.
+/// What the future does with its stage, as methods of an impl, so that its poll and its drop can
+/// call them.
 trait OwnedStages {
     type OwnedStage;
 
@@ -218,7 +240,8 @@ impl<G: Given<Runtime: Wait>, L: Parts> Future for GetOwnedFuture<G, L> {
 
     ghost gives = { λ future out. GivesOwned future out };
 
-    /// One poll at the clock's reading. It is pending while the get waits before its deadline, and after its answer.
+    /// One poll at the clock's reading. It is pending while the get waits before its deadline, and
+    /// after its answer.
     fn poll(&mut self, cx: &mut Context<'_>) -> Poll<Self::Output>
         ensures table { PollsOwned self.old result self.new }
         ensures value { IfReady result (λ out. GivesOwned self.old out) }
@@ -248,6 +271,20 @@ impl<G: Given, L: Parts> Drop for OwnedConnection<G, L> {
     {
         let OwnedConnection { holding, taken } = self;
         holding.give_back_owned(taken);
+    }
+}
+
+impl<G: Given<Runtime: Wait>, L: Parts> Detach for OwnedConnection<G, L> {
+    ghost use Rattle.bb8_lock.specs.Scope.{OwnDetachesAndLeaves};
+
+    type Connection = G::Connection;
+
+    fn detach(self) -> G::Connection
+        ensures left { OwnDetachesAndLeaves (arc_value self.holding.shared) self.taken }
+        ensures connection { result ≡ self.taken.connection }
+    {
+        let OwnedConnection { holding, taken } = self;
+        holding.detach_owned(taken)
     }
 }
 

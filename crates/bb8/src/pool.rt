@@ -5,7 +5,7 @@ ghost use Rattle.std.specs.Duration.{as_nanos};
 ghost use Rattle.bb8_types.specs.declared.grants.Grant.{Grant as GrantOf};
 ghost use Rattle.bb8_types.specs.Settings.{settings_of, default_settings, is_lawful};
 ghost use Rattle.bb8_lock.specs.Parts.{HasBegun};
-ghost use Rattle.bb8_lock.specs.Scope.{OwnAdds, OwnShows};
+ghost use Rattle.bb8_lock.specs.Scope.{OwnAdds, OwnCloses, OwnRetires, OwnShows, OwnTellsClosed};
 
 use crate::Builder;
 use crate::building::{MakesPool, Plan};
@@ -19,8 +19,8 @@ use bb8_core::api::{
 };
 use bb8_gets::{GetState, Taken};
 use bb8_lock::{
-    Given, Handle, Locks, OpensScope, Part, Parts, Shared, These, add, give_back, state, take_now,
-    wait,
+    Given, Handle, Locks, OpensScope, Part, Parts, Shared, These, add, close, detach, give_back,
+    is_closed, retire, state, take_now, wait,
 };
 use std::alloc::Global;
 use std::fmt;
@@ -31,15 +31,18 @@ use std::sync::ledger::Blank;
 use std::sync::{Arc, Wait};
 use std::time::Duration;
 
-/// A handle of a pool of connections. Threads share one by reference, or have one each (`try_clone`). It lends connections out as guards,
-/// which give them back when they are dropped.
+/// A handle of a pool of connections. Threads share one by reference, or have one each
+/// (`try_clone`). It lends connections out as guards, which give them back when they are dropped.
 ///
-/// As upstream, but for the type parameters: `G` is the manager, the error sink, the customizer, the clock and the runtime that the pool was
-/// built with, which `bb8::Pool` names one by one; by the parts `L` the connections that are out are counted in proofs, and they say there
-/// which settings the pool has. They take no room at run time. A call of the pool's may wait for the lock.
+/// As upstream, but for the type parameters: `G` is the manager, the error sink, the customizer,
+/// the clock and the runtime that the pool was built with, which `bb8::Pool` names one by one; by
+/// the parts `L` the connections that are out are counted in proofs, and they say there which
+/// settings the pool has. They take no room at run time. A call of the pool's may wait for the
+/// lock.
 ///
-/// When a handle is dropped it reads the clock and leaves under the lock. The last one closes all idle connections, which are dropped
-/// under the lock, and ends all approvals that nobody has claimed.
+/// When a handle is dropped it reads the clock and leaves under the lock. The last one closes all
+/// idle connections, which are dropped under the lock, and ends all approvals that nobody has
+/// claimed.
 pub struct Pool<G: Given, L: Parts> {
     pub(crate) shared: Arc<Shared<G, L>, Global>,
     pub(crate) handle: Handle,
@@ -47,9 +50,10 @@ pub struct Pool<G: Given, L: Parts> {
 
 /// A guard: a connection that is out, which dereferences to the connection. As upstream.
 ///
-/// When it is dropped it asks the manager's `has_broken`, reads the pool's clock, and gives the connection back under the pool's lock,
-/// for which it may wait. A connection that is then closed is dropped after the lock. A guard that is forgotten keeps its connection and
-/// its part: the pool has one connection less to lend from then on.
+/// When it is dropped it asks the manager's `has_broken`, reads the pool's clock, and gives the
+/// connection back under the pool's lock, for which it may wait. A connection that is then closed
+/// is dropped after the lock. A guard that is forgotten keeps its connection and its part: the pool
+/// has one connection less to lend from then on.
 pub struct PooledConnection<'a, G: Given, L: Parts> {
     pub(crate) shared: &'a Shared<G, L>,
     pub(crate) taken: Taken<G::Connection, Part<L>>,
@@ -64,12 +68,13 @@ impl<
 > Builder<M, S, Z> {
     ghost use Rattle.bb8.specs.Pools.{clock_in, customizer_in, made_in, manager_in, settings_in, sink_in};
 
-    /// A pool that begins with no connection, and waits for none: the approvals for the first ones, up to `min_idle`, are granted, and
-    /// whoever turns a driver of the pool opens them.
+    /// A pool that begins with no connection, and waits for none: the approvals for the first ones,
+    /// up to `min_idle`, are granted, and whoever turns a driver of the pool opens them.
     ///
-    /// As upstream, but that the clock and the runtime are handed in, with a blank of `max_size` parts, and that memory can be
-    /// refused: then, and where a first approval was withheld for want of memory, the answer is `Memory` and all that was handed in
-    /// is dropped. The settings have to be lawful, where upstream panics.
+    /// As upstream, but that the clock and the runtime are handed in, with a blank of `max_size`
+    /// parts, and that memory can be refused: then, and where a first approval was withheld for
+    /// want of memory, the answer is `Memory` and all that was handed in is dropped. The settings
+    /// have to be lawful, where upstream panics.
     pub fn build_unchecked<
         K: Clock,
         R: Wait + AllocGlobal + Send + Sync + Drop + 'static,
@@ -138,20 +143,25 @@ pub trait Gets {
     /// The future of a dedicated connection.
     type Dedicated;
 
-    /// Gets a connection: an idle one, or the first that comes in the get's turn. As upstream, but for the future's name.
+    /// Gets a connection: an idle one, or the first that comes in the get's turn. As upstream, but
+    /// for the future's name.
     ///
-    /// A get that finds nothing idle waits, and may have an approval granted to open a connection. Without a driver of the pool nobody opens
-    /// it, so the get waits for a connection that comes back or is added, and the approval stays open, which may leave no room for an
-    /// adding. A poll that is pending asks to be polled again at once, so an executor does not sleep while a get waits.
+    /// A get that finds nothing idle waits, and may have an approval granted to open a connection.
+    /// Without a driver of the pool nobody opens it, so the get waits for a connection that comes
+    /// back or is added, and the approval stays open, which may leave no room for an adding. A poll
+    /// that is pending asks to be polled again at once, so an executor does not sleep while a get
+    /// waits.
     ///
-    /// It answers `TimedOut` once `connection_timeout` has passed since the first poll, and `Memory` or `Exhausted` where the get could
-    /// not begin.
+    /// It answers `TimedOut` once `connection_timeout` has passed since the first poll, or the pool
+    /// was closed, and `Memory` or `Exhausted` where the get could not begin.
     fn get(self) -> Self::Get;
 
-    /// Opens a connection that the pool does not count: it takes no room in the pool, which neither checks it nor takes it back. The
-    /// customizer prepares it. As upstream, but for the future's name.
+    /// Opens a connection that the pool does not count: it takes no room in the pool, which neither
+    /// checks it nor takes it back. The customizer prepares it. As upstream, but for the future's
+    /// name.
     ///
-    /// It answers the first error of manager or customizer; it is tried once. A connection whose preparation failed is dropped.
+    /// It answers the first error of manager or customizer; it is tried once. A connection whose
+    /// preparation failed is dropped.
     fn dedicated_connection(self) -> Self::Dedicated;
 }
 
@@ -188,7 +198,8 @@ impl<'a, G: Given, L: Parts> Gets for &'a Pool<G, L> {
     }
 }
 
-/// The calls of a pool that may wait for its lock. They stand in a trait, as a thread's code can call methods of traits alone.
+/// The calls of a pool that may wait for its lock. They stand in a trait, as a thread's code can
+/// call methods of traits alone.
 pub trait PoolCalls {
     /// What the pool lends.
     type Connection;
@@ -208,53 +219,107 @@ pub trait PoolCalls {
     /// A guard that has a handle of its own.
     type Owned;
 
-    /// Gets a connection as `get` does, with a handle of its own, so that neither the get nor its guard borrows the pool. As upstream, but
-    /// that the handle is made at this call, where upstream makes it once the get is served.
+    /// Gets a connection as `get` does, with a handle of its own, so that neither the get nor its
+    /// guard borrows the pool. As upstream, but that the handle is made at this call, where
+    /// upstream makes it once the get is served.
     ///
-    /// A handle that is refused, as by `try_clone`, is the answer of the first poll, and then no get begins.
+    /// A handle that is refused, as by `try_clone`, is the answer of the first poll, and then no
+    /// get begins.
     fn get_owned(self) -> Self::GetOwned;
 
-    /// Gets a connection if one is idle, and waits for none. It asks under one taking of the lock whether one is, and where none is it answers
-    /// `None`: no get began and none is counted.
+    /// Gets a connection if one is idle, and waits for none. It asks under one taking of the lock
+    /// whether one is, and where none is it answers `None`: no get began and none is counted.
     ///
-    /// With the check off one that is idle is the answer. With the check on the check is polled once: where it does not pass at that poll the
-    /// answer is `None`, and the get is counted as cancelled. It answers `Memory` or `Exhausted` where the get could not begin.
+    /// One that goes out unchecked is the answer. With the check on, and unless
+    /// `test_on_check_out_after` spares it, the check is polled once: where it does not pass at
+    /// that poll the answer is `None`, and the get is counted as cancelled. It answers `Memory` or
+    /// `Exhausted` where the get could not begin.
     fn try_get(self) -> Result<Option<Self::Guard>, RunError<Self::Error>>;
 
-    /// Gets a connection as `get` does, in one call: the thread waits until the get answers, `connection_timeout` at most. Upstream
-    /// awaits.
+    /// Gets a connection as `get` does, in one call: the thread waits until the get answers,
+    /// `connection_timeout` at most. Upstream awaits.
     ///
-    /// It sleeps between the polls of its get, until a connection comes back or is opened or added, or the deadline has come, and
-    /// 50 milliseconds at most; while its connection is checked a millisecond at most. Each poll reads the pool's clock, and again before
-    /// it sleeps. The errors are those of `get`.
+    /// It sleeps between the polls of its get, until a connection comes back or is opened or added,
+    /// or the deadline has come, and 50 milliseconds at most; while its connection is checked a
+    /// millisecond at most. Each poll reads the pool's clock, and again before it sleeps. The
+    /// errors are those of `get`.
     fn get_blocking(self) -> Result<Self::Guard, RunError<Self::Error>>;
 
-    /// As `get_blocking`, with a time of its own in place of `connection_timeout`. Upstream's caller sets a timer.
+    /// As `get_blocking`, with a time of its own in place of `connection_timeout`. Upstream's
+    /// caller sets a timer.
     fn get_blocking_timeout(self, timeout: Duration) -> Result<Self::Guard, RunError<Self::Error>>;
 
-    /// Gets a connection as `get_owned` does, and waits as `get_blocking` does. The handle is made first; one that is refused is the answer,
-    /// and then no get begins.
+    /// Gets a connection as `get_owned` does, and waits as `get_blocking` does. The handle is made
+    /// first; one that is refused is the answer, and then no get begins.
     fn get_owned_blocking(self) -> Result<Self::Owned, RunError<Self::Error>>;
 
-    /// Adds a connection that the pool did not open. It is asked whether it is broken first, and is otherwise idle at once, and born
-    /// now. It does not count as created, and no customizer prepares it. As upstream.
+    /// Adds a connection that the pool did not open. It is asked whether it is broken first, and is
+    /// otherwise idle at once, and born now. It does not count as created, and no customizer
+    /// prepares it. As upstream.
     ///
-    /// A refusal hands the connection back, as `has_broken` left it: `Broken` where that found it broken, else `NoCapacity` where
-    /// connections and open approvals are `max_size` already, else `Withheld` where no memory or no number was left for it.
+    /// A refusal hands the connection back, as `has_broken` left it: `Broken` where that found it
+    /// broken, else `NoCapacity` where connections and open approvals are `max_size` already, else
+    /// `Withheld` where no memory or no number was left for it.
     ///
-    /// An approval is open until its connection was opened. A get that found nothing idle may have had one granted, which stays open where
-    /// nobody turns a driver of the pool, also once that get was let go: then an adding may find no room although fewer connections than
-    /// `max_size` are there.
+    /// An approval is open until its connection was opened. A get that found nothing idle may have
+    /// had one granted, which stays open where nobody turns a driver of the pool, also once that
+    /// get was let go: then an adding may find no room although fewer connections than `max_size`
+    /// are there.
     fn add(self, conn: Self::Connection) -> Result<(), AddError<Self::Connection>>;
 
-    /// How many connections the pool has, how many of them are idle, and what has happened to it. As upstream.
+    /// How many connections the pool has, how many of them are idle, and what has happened to it.
+    /// As upstream.
     fn state(self) -> State;
 
-    /// One handle more of the same pool. The pool lives as long as one of its handles; the drop of the last one closes all that is idle.
+    /// One handle more of the same pool. The pool lives as long as one of its handles; the drop of
+    /// the last one closes all that is idle.
     ///
-    /// It answers `Exhausted` where 4,294,967,295 handles are alive, and `Memory` where sharing the pool was refused memory; the pool is
-    /// then as before. Upstream's `Clone`, which refuses nothing.
+    /// It answers `Exhausted` where 4,294,967,295 handles are alive, or the pool was closed, and
+    /// `Memory` where sharing the pool was refused memory; the pool is then as before. Upstream's
+    /// `Clone`, which refuses nothing.
     fn try_clone(self) -> Result<Self::Handle, RunError<Self::Error>>;
+
+    /// Retires all connections: each connection that there is now, and each that a connection
+    /// attempt under way brings, counts as too old from now on. Upstream has no such call; its
+    /// callers wait for `max_lifetime`.
+    ///
+    /// It is for a server that was moved, or a password that was changed. Idle connections are
+    /// closed now. One that is checked out stays valid until it is returned, and is closed then. A
+    /// connection attempt under way goes on; its connection is closed the first time that it is
+    /// returned. Connections that are asked for later are not touched. Each that is closed counts
+    /// in `connections_closed_retired`.
+    ///
+    /// New ones are opened as far as `min_idle` asks for them, and no get that waits is woken. The
+    /// closed connections are dropped once the lock is released, one after another, so a slow drop
+    /// delays this call alone; meanwhile their replacements may be open already. If memory for a
+    /// list of `max_size` connections is refused, they are dropped under the lock.
+    fn retire(self, alloc: Global);
+
+    /// Closes the pool, for all its handles at once. Upstream has no such call.
+    ///
+    /// All idle connections are closed, and dropped once the lock is free; if memory for a list of
+    /// them is refused, they are dropped under the lock. Connection attempts that no driver has
+    /// begun are given up. A connection that is checked out, or is just being opened, is closed
+    /// when it comes back. Gets that wait return `TimedOut` at their next poll, and blocked threads
+    /// are woken for it. From then on `get` returns `TimedOut`, `add` returns `NoCapacity`,
+    /// `try_clone` and `get_owned` return `Exhausted`, and drivers end. Closing the pool again does
+    /// nothing.
+    fn close(self, alloc: Global);
+
+    /// Returns whether the pool was closed. Upstream has no such call.
+    fn is_closed(self) -> bool;
+}
+
+/// Taking a connection out of its pool.
+pub trait Detach {
+    /// What the guard holds.
+    type Connection;
+
+    /// Takes the connection out of the pool for good, and returns it. Its slot is free again: the
+    /// longest waiter is notified, and a new connection is requested if one is wanted. The
+    /// connection is not asked whether it is broken, and counts as closed in no figure. The handle
+    /// of an `OwnedConnection` leaves then. Upstream has no such call.
+    fn detach(self) -> Self::Connection;
 }
 
 /// The cancelling of a future.
@@ -377,6 +442,27 @@ impl<'a, G: Given<Runtime: Wait>, L: Parts> PoolCalls for &'a Pool<G, L> {
             Err(error) => Err(error),
         }
     }
+
+    fn retire(self, alloc: Global)
+        ensures { OwnRetires (arc_value self.now.shared) }
+    {
+        let shared = &*self.shared;
+        retire(&mut shared.scope(), alloc, shared.config.max_size);
+    }
+
+    fn close(self, alloc: Global)
+        ensures { OwnCloses (arc_value self.now.shared) }
+    {
+        let shared = &*self.shared;
+        close(&mut shared.scope(), alloc, shared.config.max_size);
+    }
+
+    fn is_closed(self) -> bool
+        ensures { OwnTellsClosed (arc_value self.now.shared) result }
+    {
+        let shared = &*self.shared;
+        is_closed(&mut shared.scope())
+    }
 }
 
 impl<G: Given, L: Parts> Pool<G, L> {
@@ -394,8 +480,8 @@ impl<M: ManageConnection, R: Locks, L: Parts> Pool<
     These<M, NopErrorSink, NopCustomizer, SetClock, R>,
     L,
 > {
-    /// A builder with each setting at its default. As upstream; it is a call of the pools whose errors go nowhere, whose connections
-    /// nothing prepares and whose moment is set.
+    /// A builder with each setting at its default. As upstream; it is a call of the pools whose
+    /// errors go nowhere, whose connections nothing prepares and whose moment is set.
     pub fn builder() -> Builder<M>
         ensures { result.settings ≡ default_settings }
     {
@@ -433,6 +519,25 @@ impl<G: Given, L: Parts> Drop for PooledConnection<'_, G, L> {
             lends: _,
         } = self;
         give_back(&mut shared.scope(), taken);
+    }
+}
+
+impl<G: Given<Runtime: Wait>, L: Parts> Detach for PooledConnection<'_, G, L> {
+    ghost use Rattle.bb8_lock.specs.Scope.{OwnDetaches};
+    ghost use Rattle.bb8.specs.GuardLists.{connection_of};
+
+    type Connection = G::Connection;
+
+    fn detach(self) -> G::Connection
+        ensures left { OwnDetaches self.entry.shared.now self.entry.taken }
+        ensures connection { result ≡ connection_of self.entry }
+    {
+        let PooledConnection {
+            shared,
+            taken,
+            lends: _,
+        } = self;
+        detach(&mut shared.scope(), taken)
     }
 }
 

@@ -5,7 +5,8 @@ ghost use Rattle.bb8.specs.Printing.{line_text};
 use bb8_core::api::ErrorSink;
 use std::fmt;
 
-/// An error of a pool that has a name, as one line: the name, a colon, and the error as it displays.
+/// An error of a pool that has a name, as one line: the name, a colon, and the error as it
+/// displays.
 #[derive(Clone, Copy, Debug)]
 pub struct ErrorLine<'a, E> {
     /// What the error was about.
@@ -22,10 +23,11 @@ impl<E: fmt::Display> fmt::Display for ErrorLine<'_, E> {
     }
 }
 
-/// Prints each error to the standard error, as an `ErrorLine`. One that cannot be written is dropped. Upstream leaves the sink
-/// to the user.
+/// Prints each error to the standard error, as an `ErrorLine`. One that cannot be written is
+/// dropped. Upstream leaves the sink to the user.
 ///
-/// The name is that of the pool or of its server; which try of an opening it was, or which check, the manager's error may say.
+/// The name is that of the pool or of its server; which try of an opening it was, or which check,
+/// the manager's error may say.
 #[derive(Clone, Copy, Debug)]
 pub struct PrintingSink<R> {
     /// What prints.

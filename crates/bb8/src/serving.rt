@@ -21,12 +21,13 @@ use std::sync::ledger::Blank;
 use std::sync::{Arc, Wait};
 use std::thread::{JoinHandle, Threads};
 
-/// What a program does with its pool in threads, by whatever parts `L` the connections that are out are counted. `Builder::serve` runs
-/// it.
+/// What a program does with its pool in threads, by whatever parts `L` the connections that are out
+/// are counted. `Builder::serve` runs it.
 ///
-/// Its methods call the pool by `PoolCalls`; a call of a function that takes the pool has no proof in them. Each has a ghost member, a
-/// relation between what it was given and what it answered, with the pool's settings, manager and clock. The implementer chooses it,
-/// and one that is left out allows everything.
+/// Its methods call the pool by `PoolCalls`; a call of a function that takes the pool has no proof
+/// in them. Each has a ghost member, a relation between what it was given and what it answered,
+/// with the pool's settings, manager and clock. The implementer chooses it, and one that is left
+/// out allows everything.
 pub trait Service<
     M: ManageConnection,
     S: ErrorSink<M::Error>,
@@ -46,13 +47,16 @@ pub trait Service<
     // Holds of a service, what its pool was built of, and each answer that its beginning may give.
     ghost begins: { Self → Basis M S Z K → Result (Unit {0}) Self.Outcome → Type 0 } = { λ _ _ _. ⊤ };
 
-    // Holds of a service, what its pool was built of, the number of a thread, and each thing that the thread may tell.
+    // Holds of a service, what its pool was built of, the number of a thread, and each thing that
+    // the thread may tell.
     ghost tells: { Self → Basis M S Z K → ℕ → Self.Told → Type 0 } = { λ _ _ _ _. ⊤ };
 
-    // Holds of a service, what its pool was built of, what the threads told in their order, and each outcome that it may end with.
+    // Holds of a service, what its pool was built of, what the threads told in their order, and
+    // each outcome that it may end with.
     ghost ends: { Self → Basis M S Z K → List Self.Told → Self.Outcome → Type 0 } = { λ _ _ _ _. ⊤ };
 
-    /// What is done before the threads start. Where it answers an error, none is started, and that is what comes of it all.
+    /// What is done before the threads start. Where it answers an error, none is started, and that
+    /// is what comes of it all.
     fn begin<L: PoolParts>(&self, pool: &Pool<M, S, Z, K, R, L>) -> Result<(), Self::Outcome>
         requires { suits self.now (basis_of pool.now) }
         ensures { begins self.now (basis_of pool.now) result };
@@ -62,7 +66,8 @@ pub trait Service<
         requires { suits self.now (basis_of pool.now) }
         ensures { tells self.now (basis_of pool.now) thread result };
 
-    /// What is done once all threads have ended, with what they told, in their order. The pool is dropped then.
+    /// What is done once all threads have ended, with what they told, in their order. The pool is
+    /// dropped then.
     fn end<L: PoolParts>(&self, pool: &Pool<M, S, Z, K, R, L>, told: &[Self::Told]) -> Self::Outcome
         requires { suits self.now (basis_of pool.now) }
         ensures { ends self.now (basis_of pool.now) told.now result };
@@ -215,14 +220,17 @@ impl<
     S: ErrorSink<M::Error>,
     Z: CustomizeConnection<M::Connection, M::Error>,
 > Builder<M, S, Z> {
-    /// Builds a pool as `build` does, with parts of its own, and waits asleep until its first connections are open. Then it runs a service over
-    /// the pool: the service begins, each thread runs with its number, in a thread of its own where one can be made, and once all have
-    /// ended the service ends. A driver makes the pool's turns meanwhile, in one more thread, which sleeps between two of them while
-    /// nothing is to be done (`Driver::run`). Then the pool is dropped, and the driver with it.
+    /// Builds a pool as `build` does, with parts of its own, and waits asleep until its first
+    /// connections are open. Then it runs a service over the pool: the service begins, each thread
+    /// runs with its number, in a thread of its own where one can be made, and once all have ended
+    /// the service ends. A driver makes the pool's turns meanwhile, in one more thread, which
+    /// sleeps between two of them while nothing is to be done (`Driver::run`). Then the pool is
+    /// dropped, and the driver with it.
     ///
-    /// The answer is `User` with the error of a first connection that could not be opened, and `Memory` where the pool, or a thread for its
-    /// driver, could not be made: then the service did not begin. It is `Memory` too where what the threads tell found no memory: then
-    /// some may have run, but the service does not end. Settings are as for `build`.
+    /// The answer is `User` with the error of a first connection that could not be opened, and
+    /// `Memory` where the pool, or a thread for its driver, could not be made: then the service did
+    /// not begin. It is `Memory` too where what the threads tell found no memory: then some may
+    /// have run, but the service does not end. Settings are as for `build`.
     pub fn serve<
         K: Clock,
         R: Threads + Wait + AllocGlobal + Copy + Send + Sync + Drop + 'static,

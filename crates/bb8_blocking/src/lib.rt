@@ -1,4 +1,5 @@
-//! A manager over a client that blocks, in three plain calls, and the wrapper by which a pool takes it. Upstream has neither.
+//! A manager over a client that blocks, in three plain calls, and the wrapper by which a pool takes
+//! it. Upstream has neither.
 #![tactic(auto)]
 
 ghost use Rattle.std.specs.Prelude.{◌≡◌, ⊤, Bool, Result};
@@ -11,14 +12,16 @@ use bb8_types::api::{ManageConnection, Moment};
 use futures::task::Poll;
 use std::fmt::Debug;
 
-/// Opens and checks the connections of a pool by calls that may block. A pool takes it as `Blocking(manager)`. Upstream has no such trait.
+/// Opens and checks the connections of a pool by calls that may block. A pool takes it as
+/// `Blocking(manager)`. Upstream has no such trait.
 ///
-/// A call holds up its thread until it returns. `connect` holds up a driver's: its other openings and its reaper wait. `is_valid` holds up
-/// that of a get's caller, also past the get's deadline. So the client has a time limit of its own, or more drivers of the pool run, each
-/// in a thread of its own. A client that can be polled implements `ManageConnection` itself.
+/// A call holds up its thread until it returns. `connect` holds up a driver's: its other openings
+/// and its reaper wait. `is_valid` holds up that of a get's caller, also past the get's deadline.
+/// So the client has a time limit of its own, or more drivers of the pool run, each in a thread of
+/// its own. A client that can be polled implements `ManageConnection` itself.
 ///
-/// Each call has a ghost member, a relation between what the call was given and what it answered. The implementer chooses it, and one
-/// that is left out allows everything.
+/// Each call has a ghost member, a relation between what the call was given and what it answered.
+/// The implementer chooses it, and one that is left out allows everything.
 pub trait BlockingManager: Sized + Send + Sync + Drop + 'static {
     /// What the pool keeps and hands out.
     type Connection: Send + Drop + 'static;
@@ -29,18 +32,20 @@ pub trait BlockingManager: Sized + Send + Sync + Drop + 'static {
     // Holds of a manager and each answer that an opening may have.
     ghost opens: { Self → Result Self.Connection Self.Error → Type 0 } = { λ _ _. ⊤ };
 
-    // Holds of a manager, a connection, each answer that its check may have, and the connection then.
+    // Holds of a manager, a connection, each answer that its check may have, and the connection
+    // then.
     ghost validates: { Self → Self.Connection → Result (Unit {0}) Self.Error → Self.Connection → Type 0 } = { λ _ _ _ _. ⊤ };
 
     // Holds of a manager, a connection, whether it may be called broken, and the connection then.
     ghost breaks: { Self → Self.Connection → Bool → Self.Connection → Type 0 } = { λ _ _ _ _. ⊤ };
 
-    /// Opens a connection. It returns once the connection is open or has failed, and may block until then, unlike upstream's.
+    /// Opens a connection. It returns once the connection is open or has failed, and may block
+    /// until then, unlike upstream's.
     fn connect(&self) -> Result<Self::Connection, Self::Error>
         ensures { opens self.now result };
 
-    /// Checks whether a connection still serves: Ok where it does, an error where it is to be closed. It may block until that is known,
-    /// unlike upstream's.
+    /// Checks whether a connection still serves: Ok where it does, an error where it is to be
+    /// closed. It may block until that is known, unlike upstream's.
     fn is_valid(&self, connection: &mut Self::Connection) -> Result<(), Self::Error>
         ensures { validates self.now connection.old result connection.new };
 
@@ -51,7 +56,8 @@ pub trait BlockingManager: Sized + Send + Sync + Drop + 'static {
 
 /// A pool's manager that makes the calls of the one inside. Upstream has no such wrapper.
 ///
-/// To begin an opening or a check calls nothing. Its first poll makes the one call, holds up its thread until that returns, and is ready.
+/// To begin an opening or a check calls nothing. Its first poll makes the one call, holds up its
+/// thread until that returns, and is ready.
 #[derive(Drop)]
 pub struct Blocking<B: BlockingManager>(
     /// What opens and checks the connections.

@@ -1,6 +1,8 @@
 -- A begin and a try in one step.
-use Rattle.bb8_core.proofs.Words.{◌≡◌, ℕ, ◌+◌, ◌<◌, max, Bool, false, cond, Option, Some, None, refl, sym, ap, ◌∙◌, arith, subst, get, Grant, Guarded, Active, Getting, Counters, Begin, Try, Counts, Begun, Served, Taken, due, one, ltb, Held, Holding, first_of, gets_stand, is_trying, counts_held, StateView, IsFitting, RecordsView, GetsView, eqb_self, get_inserted, end_of_numbers, same_gets, true}
+use Rattle.bb8_core.proofs.Words.{◌≡◌, ℕ, ◌+◌, ◌<◌, max, Bool, false, cond, Option, Some, None, refl, sym, ap, ◌∙◌, arith, subst, get, Grant, Guarded, Active, Getting, Counters, Begin, Try, Counts, Begun, Served, Taken, due, one, ltb, Held, Holding, first_of, gets_stand, is_trying, counts_held, StateView, IsFitting, RecordsView, GetsView, eqb_self, get_inserted, end_of_numbers, same_gets, true, entered_in, is_checked, ◌&&◌, eqb, leb, nat_tests, inl, inr}
 use Rattle.bb8_tables.specs.Machine as machine
+use Rattle.bb8_core.specs.Decided as decided
+use Rattle.bb8_core.specs.StepAnswers.{NotAtOnce}
 use Rattle.bb8_core.proofs.Runs.{shown_try}
 use Rattle.bb8_core.proofs.Steps.{IsStep, Grants, served, meets_begun, meets_served, meets_taken, meets_waits}
 use Rattle.bb8_ledger.specs.Answers as answers
@@ -23,6 +25,14 @@ pub begun_at : (s : GetsView) {room gs : GetsView} (f : ℕ → GetsView → Get
 begun_at s f room_is gs_is = gs_is ∙ ap (λ (x : GetsView). f x.next (machine.after_begin x)) room_is ∙ ap (f s.next) (roomy s)
 
 module _ {C : Type 0} where
+  -- the one that is first is checked, or none is first
+  pub first_checked : (s : StateView C) (at : ℕ) → ((k : ℕ) → first_of s.config.queue_strategy s.records.idle ≡ Some k → decided.asks_check s at k ≡ true) → NotAtOnce s at
+  first_checked s at checked = go (first_of s.config.queue_strategy s.records.idle) refl
+    where
+      go : (o : Option ℕ) → first_of s.config.queue_strategy s.records.idle ≡ o → NotAtOnce s at
+      go None e = inr (inl e)
+      go (Some k) e = inl (k, e, checked k e)
+
   -- the state between the begin and the try
   abbrev pub between : StateView C → ℕ → StateView C
   between s now = record s { latest = now; gets = machine.after_begin s.gets; counts = record s.counts { started = s.counts.started + 1 } }
@@ -39,7 +49,8 @@ module _ {C : Type 0} where
 
   -- what is done to the fields, from the state between on
   pub meets_served_between : (s : StateView C) {at now n k : ℕ} {grant : Grant} {rs : RecordsView C} {gs : GetsView}
-      (was : Counters) {is : Counters} → n ≡ s.gets.next → s.config.test_on_check_out ≡ false → now ≡ max s.latest at
+      (was : Counters) {is : Counters} → n ≡ s.gets.next
+      → is_checked s.config now (entered_in (get s.records.places k)) ≡ false → now ≡ max s.latest at
       → first_of s.config.queue_strategy s.records.idle ≡ Some k → Grants s false (machine.after_take Guarded k s.records) grant rs
       → gs ≡ machine.after_get_end s.gets.next (machine.after_begin s.gets) → s.counts ≡ counts_held was
       → is ≡ served (record was { started = was.started + 1 }) now never
@@ -54,7 +65,8 @@ module _ {C : Type 0} where
       (ap (λ (x : Counts). record x { started = x.started + 1 }) were) refl counted)
 
   -- the get holds a connection at once
-  pub meets_taken_between : (s : StateView C) {at now n k : ℕ} {grant : Grant} {rs : RecordsView C} {gs : GetsView} → n ≡ s.gets.next → s.config.test_on_check_out ≡ true → now ≡ max s.latest at
+  pub meets_taken_between : (s : StateView C) {at now n k : ℕ} {grant : Grant} {rs : RecordsView C} {gs : GetsView} → n ≡ s.gets.next
+      → is_checked s.config now (entered_in (get s.records.places k)) ≡ true → now ≡ max s.latest at
       → first_of s.config.queue_strategy s.records.idle ≡ Some k → Grants s false (machine.after_take (Held n) k s.records) grant rs
       → gs ≡ machine.after_turn (Holding k) s.gets.next (machine.after_begin s.gets)
       → IsStep (between s now) at (Try n) (Taken k grant) (record (between s now) { records = rs; gets = gs })

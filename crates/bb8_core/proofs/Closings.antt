@@ -1,14 +1,14 @@
 -- The connections that a reap or the last leave closes, one by one.
-use Rattle.bb8_core.proofs.Words.{◌≡◌, ◌≢◌, ℕ, suc, ◌+◌, ◌<◌, max, Bool, true, false, cond, eqb, List, [], ◌∷◌, ◌++◌, drop, slice_get, Option, option_and_then, Some, None, refl, sym, ap, ◌∙◌, arith, subst, FinMap, get, remove, Grant, Idle, Standing, Numbered, at_number, update, numbers, in_order, tally, one, after_end, stands, is_idle, idles_out, lives_out, Told, Reaps, after_reap, after_reaped, AreReaped, AreFirst, RecordsView, Ledger, Start, start, position, latest, records, peak, idle_at, outlived, reaped_at, outlived_at, idled_at, StateView, HasLedger, shown_records, Before, same_or_not, at-below, get_removed, and_right, standing_is, idle_is, lives_idle, idles_idle, entered_before, ended_before, inl, inr}
+use Rattle.bb8_core.proofs.Words.{◌≡◌, ◌≢◌, ℕ, suc, ◌+◌, ◌<◌, max, Bool, true, false, cond, eqb, List, [], ◌∷◌, ◌++◌, drop, slice_get, Option, option_and_then, Some, None, refl, sym, ap, ◌∙◌, arith, subst, FinMap, get, remove, Grant, Idle, Standing, Numbered, at_number, update, numbers, in_order, tally, one, after_end, stands, is_idle, idles_out, lives_out, Told, Reaps, after_reap, after_reaped, AreReaped, AreFirst, RecordsView, Ledger, Start, start, position, latest, records, peak, idle_at, outlived, reaped_at, outlived_at, idled_at, retiring, retired_at, Settings, StateView, HasLedger, shown_records, Before, same_or_not, at-below, get_removed, and_right, standing_is, idle_is, lives_idle, idles_idle, entered_before, ended_before, inl, inr}
 use Rattle.std.specs.Ordering.{nat_cmp}
 use Rattle.circular_buffer.specs.Buffer.{Buffer}
 use Rattle.bb8_tables.specs.declared.closed.Closed.{Closed}
 use Rattle.bb8_tables.specs.Closed.{offered_all, closed_at, closed_in, closed_of}
 use Rattle.bb8_core.specs.declared.answers.ReapAnswer.TheVariants as reaping
-use Rattle.bb8_core.specs.Closings.{AreIdleAs, OffersReaped, OffersLeft}
+use Rattle.bb8_core.specs.Closings.{AreIdleAs, Offers, OffersReaped, OffersRetired, OffersLeft, OffersShut}
 use Rattle.bb8_types.proofs.Numbered as numbered
 use Rattle.bb8_core.proofs.Fitting.{shown, shown_record}
-use Rattle.bb8_core.proofs.Reaps.{both_ended, Ended_at, ended_at}
+use Rattle.bb8_core.proofs.Reaps.{both_ended, Ended_at, ended_at, Retired_at, retired_ends, retiring_by, old_ones, other_ones}
 use Rattle.bb8_core.proofs.ShownLeft.{shown-idle_end}
 
 -- ---- how often a number comes
@@ -127,27 +127,58 @@ module _ {C : Type 0} where
       let aged : tally (eqb k) js ≡ tally (eqb k) (outlived_at l at) = aged_count (start l) (max (latest l) at) (position l) (peak l) (records l) js r.aged r.none_aged k in
       omega (arith, ap (λ (xs : List ℕ). tally (eqb k) xs) e.idle, tally_both (eqb k) js ks, tally_both (eqb k) (outlived_at l at) (idled_at l at))
 
+  -- and so for a retire
+  retire_count : (l : Ledger C) (at : ℕ) (js ks : List ℕ) (told : Told)
+      → Reaps (retiring_by (start l).config) (max (latest l) at) (shown l).records js ks (both_ended js ks (shown l).records) told
+      → (k : ℕ) → tally (eqb k) (js ++ ks) ≡ tally (eqb k) (retired_at l at)
+  retire_count l at js ks told r k =
+      let e : Retired_at l at (position l) js ks = retired_ends l at (position l) js ks told (entered_before l) refl r in
+      let aged : tally (eqb k) js ≡ tally (eqb k) (old_ones l at) = aged_count (retiring (start l)) (max (latest l) at) (position l) (peak l) (records l) js r.aged r.none_aged k in
+      omega (arith, ap (λ (xs : List ℕ). tally (eqb k) xs) e.idle, tally_both (eqb k) js ks, tally_both (eqb k) (old_ones l at) (other_ones l at))
+
+  -- what ends by some settings is offered
+  ended_offers : (s : StateView C) (config : Settings) {now : ℕ} {js ks : List ℕ} {mid : RecordsView C} {told : Told} (list : Buffer (Closed C)) {offered : Buffer (Closed C)}
+      → Reaps config now s.records js ks mid told → offered ≡ offered_all (closed_of (js ++ ks) s.records.places) list → Offers s (js ++ ks) list offered
+  ended_offers s config {now} {js} {ks} {mid} list r listed = (closed_of (js ++ ks) s.records.places, are_closed s (js ++ ks) s.records.places each (λ k q h. h), listed)
+    where
+      each : AreIdle (js ++ ks) s.records.places
+      each = idle_both js ks s.records
+          (reaped_idle (lives_out config now) refl (λ x h. lives_idle config now (Some x) h) js s.records r.aged)
+          (reaped_idle (idles_out config now) refl (λ x h. idles_idle config now (Some x) h) ks (after_reap js s.records) (first_are (idles_out config now) ks (after_reap js s.records) r.first))
+
   pub reap_offers : {s t : StateView C} (at : ℕ) {now : ℕ} {js ks : List ℕ} {mid : RecordsView C} {told : Told} (grant : Grant) (list : Buffer (Closed C)) {offered : Buffer (Closed C)} → s ≡ t
       → now ≡ max s.latest at → Reaps s.config now s.records js ks mid told → offered ≡ offered_all (closed_of (js ++ ks) s.records.places) list
       → OffersReaped t at (reaping.Reaped told.closed told.by_idle told.by_life grant) list offered
   reap_offers {s} {t} at {now} {js} {ks} {mid} {told} grant list {offered} is now_is r listed =
       subst (λ (x : StateView C). OffersReaped x at (reaping.Reaped told.closed told.by_idle told.by_life grant) list offered) is (
         js ++ ks,
-        (closed_of (js ++ ks) s.records.places, are_closed s (js ++ ks) s.records.places each (λ k q h. h), listed),
+        ended_offers s s.config list r listed,
         λ l legal means k. subst (λ (x : StateView C). now ≡ max x.latest at → Reaps x.config now x.records js ks mid told → tally (eqb k) (js ++ ks) ≡ tally (eqb k) (reaped_at l at)) means
             (λ n q. reap_count l at js ks told
             (subst (λ (m : ℕ). Reaps (start l).config m (shown l).records js ks (both_ended js ks (shown l).records) told) n
             (subst (λ (x : RecordsView C). Reaps (start l).config now (shown l).records js ks x told) q.state q)) k) now_is r,
       )
-    where
-      each : AreIdle (js ++ ks) s.records.places
-      each = idle_both js ks s.records
-          (reaped_idle (lives_out s.config now) refl (λ x h. lives_idle s.config now (Some x) h) js s.records r.aged)
-          (reaped_idle (idles_out s.config now) refl (λ x h. idles_idle s.config now (Some x) h) ks (after_reap js s.records) (first_are (idles_out s.config now) ks (after_reap js s.records) r.first))
+
+  pub retire_offers : {s t : StateView C} (at : ℕ) {now : ℕ} {js ks : List ℕ} {mid : RecordsView C} {told : Told} (grant : Grant) (list : Buffer (Closed C)) {offered : Buffer (Closed C)} → s ≡ t
+      → now ≡ max s.latest at → Reaps (retiring_by s.config) now s.records js ks mid told → offered ≡ offered_all (closed_of (js ++ ks) s.records.places) list
+      → OffersRetired t at (reaping.Reaped told.closed 0 0 grant) list offered
+  retire_offers {s} {t} at {now} {js} {ks} {mid} {told} grant list {offered} is now_is r listed =
+      subst (λ (x : StateView C). OffersRetired x at (reaping.Reaped told.closed 0 0 grant) list offered) is (
+        js ++ ks,
+        ended_offers s (retiring_by s.config) list r listed,
+        λ l legal means k. subst (λ (x : StateView C). now ≡ max x.latest at → Reaps (retiring_by x.config) now x.records js ks mid told
+            → tally (eqb k) (js ++ ks) ≡ tally (eqb k) (retired_at l at)) means
+            (λ n q. retire_count l at js ks told
+            (subst (λ (m : ℕ). Reaps (retiring_by (start l).config) m (shown l).records js ks (both_ended js ks (shown l).records) told) n
+            (subst (λ (x : RecordsView C). Reaps (retiring_by (start l).config) now (shown l).records js ks x told) q.state q)) k) now_is r,
+      )
 
   -- where no handle is alive none is offered
   pub no_reap_offers : {s : StateView C} (at : ℕ) (list : Buffer (Closed C)) → OffersReaped s at reaping.Ended list list
   no_reap_offers at list = ([], ([], tt, refl), λ l legal means k. refl)
+
+  pub no_retire_offers : {s : StateView C} (at : ℕ) (list : Buffer (Closed C)) → OffersRetired s at reaping.Ended list list
+  no_retire_offers at list = ([], ([], tt, refl), λ l legal means k. refl)
 
   -- ---- the last leave
 
@@ -172,6 +203,16 @@ module _ {C : Type 0} where
         subst (λ (b : Bool). AreIdleAs s (cond b s.records.idle []) (closed_of s.records.idle s.records.places)) (sym (ap (λ (n : ℕ). eqb n 1) last))
             (are_closed s s.records.idle s.records.places
             (subst (λ (x : StateView C). AreIdle x.records.idle x.records.places) h.2 (line_idle (start h.0).first (position h.0) (peak h.0) (shown h.0).records.idle (records h.0) (entered_before h.0) refl)) (λ k q e. e)),
+        listed,
+      )
+
+  pub shut_offers : {s t : StateView C} (list : Buffer (Closed C)) {offered : Buffer (Closed C)} → s ≡ t → HasLedger s
+      → offered ≡ offered_all (closed_of s.records.idle s.records.places) list → OffersShut t list offered
+  shut_offers {s} {t} list {offered} is h listed =
+      subst (λ (x : StateView C). OffersShut x list offered) is (
+        closed_of s.records.idle s.records.places,
+        are_closed s s.records.idle s.records.places
+            (subst (λ (x : StateView C). AreIdle x.records.idle x.records.places) h.2 (line_idle (start h.0).first (position h.0) (peak h.0) (shown h.0).records.idle (records h.0) (entered_before h.0) refl)) (λ k q e. e),
         listed,
       )
 

@@ -1,6 +1,7 @@
 -- What the condition of a step says of what is shown.
-use Rattle.bb8_core.proofs.Words.{◌≡◌, ℕ, length, ◌≤◌, Bool, true, false, Option, Some, None, is_some, refl, sym, ap, ◌∙◌, subst, ◌+◌, ◌<◌, max, arith, ltb-true, get, Place, Unclaimed, Claimed, Idle, Held, Guarded, Standing, Getting, CheckedOk, GiveUp, Leave, Reason, Cancelled, Ledger, agree, ◌&&◌, conns, approved, alive, get_of, start, latest, handles, records, gets, record_of, holds, stands, gets_stand, is_unnotified, is_claimed, is_guarded, is_held_by, is_out, is_trying, GetPlace, Active, Holding, fits, IsLegal, StateView, shown_beside, HasLedger, IsFitting, Represents, standing_is, claimed_is, guarded_out, and_right, all_held, alive_get, alive_is, out_counted, claimed_counted, Fits, all_fit, due_few, Numbered, end_of_numbers, due, Settings, none_lent, RecordsView, NoneAfter}
+use Rattle.bb8_core.proofs.Words.{◌≡◌, ℕ, length, ◌≤◌, Bool, true, false, Option, Some, None, is_some, refl, sym, ap, ◌∙◌, subst, ◌+◌, ◌<◌, max, arith, ltb-true, get, Place, Unclaimed, Claimed, Idle, Held, Guarded, Standing, Getting, CheckedOk, GiveUp, Leave, Reason, Cancelled, Ledger, agree, ◌&&◌, conns, approved, alive, get_of, start, latest, handles, records, gets, record_of, holds, stands, gets_stand, is_unnotified, is_claimed, is_guarded, is_held_by, is_out, is_trying, GetPlace, Active, Holding, fits, IsLegal, StateView, shown_beside, HasLedger, IsFitting, Represents, standing_is, claimed_is, guarded_out, and_right, all_held, alive_get, alive_is, out_counted, claimed_counted, Fits, all_fit, due_few, Numbered, end_of_numbers, due, Settings, none_lent, RecordsView, NoneAfter, ltb, next, option_and_then}
 use Rattle.std.proofs.Common.{lt-ltb}
+use Rattle.std.proofs.lemmas.Bool.{ltb-false}
 use Rattle.bb8_core.specs.StateView.{TellsFitting}
 use Rattle.bb8_types.specs.Places.{held_in}
 use Rattle.bb8_types.specs.declared.standing.GetPlace.TheVariants.{Waiting}
@@ -98,7 +99,8 @@ module _ {C : Type 0} where
   due_fits s {was = was} asked h few taken_is used_is n_is = due_within s.config s.handles {was = was} asked (omega (arith, few, (shown_fits s h).size)) taken_is (n_is
       ∙ ap (λ (u : ℕ). due s.config s.handles u asked) used_is)
 
-  -- connections that were closed as invalid, or idled out, are no more than the numbers that are free
+  -- connections that were closed as invalid, or idled out, are no more than the numbers that are
+  -- free
   pub ended_shown : (s : StateView C) → HasLedger s → s.counts.invalid + s.counts.idle_timeout + s.records.conns + s.records.approved ≤ s.records.next
   ended_shown s h = subst (λ (t : StateView C). t.counts.invalid + t.counts.idle_timeout + t.records.conns + t.records.approved ≤ t.records.next) h.2 (few_ended h.0 h.1)
 
@@ -134,6 +136,18 @@ module _ {C : Type 0} where
       let some : 1 ≤ conns h.0 = out_counted h.0 k st.0 (shown_record h.0 s h.2 k ∙ st.1) st.2 in
       subst (λ (t : StateView C). 1 ≤ t.records.conns) h.2 some
 
+  -- its number is one that was given
+  pub number_few : (k : ℕ) (s : StateView C) → HasLedger s → (st : Standing C) × (get s.records.places k ≡ Some st) × (is_out st.place ≡ true)
+      → s.records.next ≤ end_of_numbers → k < end_of_numbers
+  number_few k s h st few = subst (λ (t : StateView C). t.records.next ≤ end_of_numbers → k < end_of_numbers) h.2 (go (ltb k (next h.0)) refl) few
+    where
+      go : (b : Bool) → ltb k (next h.0) ≡ b → next h.0 ≤ end_of_numbers → k < end_of_numbers
+      go true on most = omega (arith, ltb-true k (next h.0) on)
+      go false off most = absurd (
+          let none : record_of h.0 k ≡ None = ap (option_and_then (λ (r : Numbered (Standing C)). r.standing)) (numbered.at-past (records h.0) (start h.0).first k (ltb-false k (next h.0) off)) in
+          let clash : None ≡ Some st.0 = sym none ∙ shown_record h.0 s h.2 k ∙ st.1 in cc
+          )
+
   -- a connection more may be counted as created, and as closed
   pub created_few : (s : StateView C) (k : ℕ) → HasLedger s → stands is_claimed (get s.records.places k) ≡ true → s.records.next ≤ end_of_numbers → s.counts.created < end_of_numbers
   created_few s k h on few =
@@ -142,7 +156,7 @@ module _ {C : Type 0} where
       omega (arith, subst (λ (t : StateView C). 1 ≤ t.records.approved) h.2 some, (shown_fits s h).created_few)
 
   pub closed_few : (k : ℕ) (s : StateView C) → HasLedger s → (st : Standing C) × (get s.records.places k ≡ Some st) × (is_out st.place ≡ true)
-      → s.records.next ≤ end_of_numbers → s.counts.broken + s.counts.max_lifetime < end_of_numbers
+      → s.records.next ≤ end_of_numbers → s.counts.broken + s.counts.retired + s.counts.max_lifetime + s.counts.detached < end_of_numbers
   closed_few k s h st few = omega (arith, out_some k s h st, (shown_fits s h).closed_few)
 
   -- and as invalid

@@ -1,5 +1,6 @@
--- The steps at which a get lets go of what it holds, or ends without being served: both ends of a check, and a give-up.
-use Rattle.bb8_core.proofs.Words.{◌≡◌, ℕ, suc, ◌+◌, ◌*◌, max, min, Bool, true, false, not, eqb, ◌&&◌, ◌||◌, cond, List, Option, Some, None, slice_get, refl, sym, ap, ◌∙◌, IfSome, get, Grant, Idle, Active, Getting, Counters, reason_of, counts_held, Counts, CheckedOk, CheckedErr, GiveUp, Served, Kept, Closed, GaveUp, Numbered, update, in_order, standing_at, one, after_end, Ledger, Later, start, position, latest, records, gets, peak, get_peak, get_of, counts, wait_micros, broken, timed_out, cancelled, with_notice, get_at_place, unnotified_at, oldest_waiter, waiting, expires, holds, first_wait_of, is_notified, is_unnotified, gets_stand, micros_since, checks, check_fails, gives_up, gives_up_kept, gives_up_closed, StateView, IsFitting, RecordsView, GetsView, waited_before, peak_holds, get_peak_holds, holding_is, most_micros}
+-- The steps at which a get lets go of what it holds, or ends without being served: both ends of a
+-- check, and a give-up.
+use Rattle.bb8_core.proofs.Words.{◌≡◌, ℕ, suc, ◌+◌, ◌*◌, max, min, Bool, true, false, not, eqb, ◌&&◌, ◌||◌, cond, List, Option, Some, None, slice_get, refl, sym, ap, ◌∙◌, IfSome, get, Grant, Idle, Active, Getting, Counters, reason_of, counts_held, Counts, CheckedOk, CheckedErr, GiveUp, Served, Kept, Closed, GaveUp, Numbered, update, in_order, standing_at, one, after_end, Ledger, Later, start, position, latest, records, gets, peak, get_peak, get_of, counts, wait_micros, broken, timed_out, cancelled, with_notice, get_at_place, unnotified_at, oldest_waiter, waiting, expires, holds, first_wait_of, is_notified, is_unnotified, gets_stand, micros_since, checks, check_fails, gives_up, gives_up_kept, gives_up_closed, StateView, IsFitting, RecordsView, GetsView, waited_before, peak_holds, get_peak_holds, holding_is, most_micros, is_doubtful, ltb, retired}
 use Rattle.bb8_types.specs.declared.reasons.Reason.{Reason as Named}
 use Rattle.bb8_types.specs.declared.reasons.Reason.TheVariants as reasons
 use Rattle.bb8_tables.specs.Machine as machine
@@ -33,17 +34,17 @@ given_up_is reasons.TimedOut now since timed let_go = timed refl
 given_up_is reasons.Cancelled now since timed let_go = let_go refl
 
 -- a give-up closes nothing by itself
-pub given_up_open : (reason : Named) (now : ℕ) (since : Option ℕ) (was : Counters) {is : Counters} → is ≡ given_up reason now since was → is.broken + is.max_lifetime ≡ was.broken + was.max_lifetime
-given_up_open reasons.TimedOut now since was e = ap (λ (x : Counters). x.broken + x.max_lifetime) e
-given_up_open reasons.Cancelled now since was e = ap (λ (x : Counters). x.broken + x.max_lifetime) e
+pub given_up_open : (reason : Named) (now : ℕ) (since : Option ℕ) (was : Counters) {is : Counters} → is ≡ given_up reason now since was → is.broken + is.retired + is.max_lifetime ≡ was.broken + was.retired + was.max_lifetime
+given_up_open reasons.TimedOut now since was e = ap (λ (x : Counters). x.broken + x.retired + x.max_lifetime) e
+given_up_open reasons.Cancelled now since was e = ap (λ (x : Counters). x.broken + x.retired + x.max_lifetime) e
 
 -- the counters after a check that failed
 abbrev invalid_counters : Counters → Counters
 invalid_counters was = record was { invalid = was.invalid + 1 }
 
 -- the statistics after a closing
-abbrev with_closing : Counts → Bool → Bool → Counts
-with_closing x b aged = record x { broken = x.broken + one b; max_lifetime = x.max_lifetime + one (not b && aged) }
+abbrev with_closing : Counts → Bool → Bool → Bool → Counts
+with_closing x b r aged = record x { broken = x.broken + one b; retired = x.retired + one (not b && r); max_lifetime = x.max_lifetime + one (not b && (not r && aged)) }
 
 -- nothing was granted
 abbrev nothing : ℕ → Grant
@@ -103,7 +104,7 @@ module _ {C : Type 0} where
         gets = machine.after_get_end g x.gets;
         counts = counts_held (served was (max x.latest at) (first_wait_of (get x.gets.places g)));
       }) s _ at (CheckedOk g) (Served k (nothing next)) fit (is_held h, next_is, were)
-      (same_shown _ _ refl refl h.now_is refl rs_is gs_is
+      (same_shown _ _ refl refl refl h.now_is refl rs_is gs_is
       (ap counts_held (counted ∙ ap (λ (m : ℕ). served was m since) h.now_is
       ∙ ap (served was (max s.latest at)) (since_is ∙ ap (λ (x : Option Getting). first_wait_of x) h.get_is))))
       (λ l legal f known.
@@ -111,7 +112,7 @@ module _ {C : Type 0} where
       let st = held_record l g k legal held in
       let stood = holding_is (get_of l g) k held in (
         checks held (record { first = known.1; count = refl; withheld = refl }),
-        same_shown _ _ refl refl refl refl
+        same_shown _ _ refl refl refl refl refl
             (still_raised l _ _
             (shown-handed (start l).first (suc (position l)) (peak l) (records l) k st.0 st.1 st.2 ∙ ap (machine.after_handover k) (later_shown l))
             (peak_holds l)) (ended_gets l g stood.0 stood.1) (count_served l at g k (nothing next) was known.2),
@@ -122,7 +123,7 @@ module _ {C : Type 0} where
       {rs : RecordsView C} {n : Option ℕ} {gs : GetsView} (was : Counters) {is : Counters} → IsFitting s (CheckedErr g broken)
       → Holds s at g k now o → Returned s at k now birth aged → IsEndGrant s k grant → rs ≡ ended_records s k grant
       → Notices (machine.after_turn Active g s.gets) n gs → s.counts ≡ counts_held was
-      → is ≡ closed_counters (invalid_counters was) broken aged
+      → is ≡ closed_counters (invalid_counters was) broken (ltb k s.retired) aged
       → IsStep s at (CheckedErr g broken) (Closed k grant n)
       (record s { latest = now; records = rs; gets = gs; counts = counts_held is })
   meets_invalid {s} {at} {g} {k} {broken} {now} {birth} {aged} {o} {grant} {rs} {n} {gs} was {is} fit h r granted rs_is told were is_is =
@@ -131,9 +132,9 @@ module _ {C : Type 0} where
         latest = max t.latest at;
         records = ended_records t k grant;
         gets = machine.after_notice n (machine.after_turn Active g t.gets);
-        counts = counts_held (closed_counters (invalid_counters was) broken (decided.is_old t at k));
+        counts = counts_held (closed_counters (invalid_counters was) broken (ltb k t.retired) (decided.is_old t at k));
       }) s _ at (CheckedErr g broken) (Closed k grant n) fit (is_held h, granted, told.who, were)
-      (same_shown _ _ refl refl h.now_is refl rs_is told.after (ap counts_held (closed_is (invalid_counters was) broken r is_is)))
+      (same_shown _ _ refl refl refl h.now_is refl rs_is told.after (ap counts_held (closed_is (invalid_counters was) broken r is_is)))
       (λ l legal f known.
       let held = holds_in l g k known.0 in
       let st = held_record l g k legal held in
@@ -143,9 +144,9 @@ module _ {C : Type 0} where
       shown-turned (start l).first_get (position l) (get_peak l) (gets l) Active g stood.0 (waited_before l) (get_peak_holds l) stood.1
       (ap is_unnotified stood.2) refl in (
         check_fails held ended.0 known.2,
-        same_shown _ _ refl refl refl refl ended.1 (told_shown l g (get_at_place Active) true n _ turned known.2)
-            (ap (λ (x : Counts). record x { broken = x.broken + one broken; invalid = x.invalid + 1; max_lifetime = x.max_lifetime + one (not broken && expires l at k) }) known.3
-            ∙ ap (λ (b : Bool). counts_held (closed_counters (invalid_counters was) broken b)) (old_shown l at k)),
+        same_shown _ _ refl refl refl refl refl ended.1 (told_shown l g (get_at_place Active) true n _ turned known.2)
+            (ap (λ (x : Counts). with_closing (record x { invalid = x.invalid + 1 }) broken (ltb k (retired l)) (expires l at k)) known.3
+            ∙ ap (λ (b : Bool). counts_held (closed_counters (invalid_counters was) broken (ltb k (retired l)) b)) (old_shown l at k)),
       ))
 
   -- ---- give up
@@ -181,7 +182,7 @@ module _ {C : Type 0} where
 
   count_closed : (l : Ledger C) (at g k : ℕ) (reason : Named) (c : C) (broken : Bool) (grant : Grant) (n : Option ℕ)
       → counts (Later l at (GiveUp g (reason_of reason) (Some c) broken) (Closed k grant n)) ≡ with_closing
-      (given_up_counts l at g reason) broken (expires l at k)
+      (given_up_counts l at g reason) (is_doubtful (start l).config broken) (ltb k (retired l)) (expires l at k)
   count_closed l at g k reasons.TimedOut c broken grant n = refl
   count_closed l at g k reasons.Cancelled c broken grant n = refl
 
@@ -221,79 +222,81 @@ module _ {C : Type 0} where
             ∙ ap (λ (x : Option Getting). machine.heir_of x (machine.after_get_end g s.gets)) get_is,
         were,
       )
-      (same_shown _ _ refl refl now_is refl refl (gs_is ∙ ap (machine.after_notice n) left_is) (ap counts_held (given_up_shown s at g reason was now_is get_is since_is counted)))
+      (same_shown _ _ refl refl refl now_is refl refl (gs_is ∙ ap (machine.after_notice n) left_is) (ap counts_held (given_up_shown s at g reason was now_is get_is since_is counted)))
       (λ l legal f known.
       let st = giving_is l g None f in
       let n_place : n ≡ cond (is_notified st.0.place) (slice_get (machine.without g (waiting l)) 0) None = known.0
       ∙ ap (λ (x : Option Getting). machine.heir_of x (machine.after_get_end g (shown l).gets))
       (sym (shown_get l (shown l) refl g) ∙ st.1) in (
         gives_up (handed_is l g st.0 n st.1 n_place ∙ ap (λ (x : Option Getting). cond (gets_stand is_notified x) (oldest_waiter l) None) (sym st.1)),
-        same_shown _ _ refl refl refl refl (records_kept l)
+        same_shown _ _ refl refl refl refl refl (records_kept l)
             (told_shown l g after_end (is_notified st.0.place) n _ (ended_gets l g st.0 st.1) n_place)
             (count_gave_up l at g reason broken n ∙ count_given_up l at g reason was known.1),
       ))
 
   -- the connection that is handed in is idle again
-  pub meets_given_up_kept : {s : StateView C} {at g k : ℕ} (reason : Named) {c : C} {broken : Bool} {now birth : ℕ} {aged : Bool} {o : Option
+  pub meets_given_up_kept : {s : StateView C} {at g k : ℕ} (reason : Named) {c : C} {broken : Bool} {now birth : ℕ} {aged doubt : Bool} {o : Option
       Getting} {since : Option ℕ} {rs : RecordsView C} {n : Option ℕ} {gs : GetsView} (was : Counters) {is : Counters}
       → IsFitting s (GiveUp g (reason_of reason) (Some c) broken) → Holds s at g k now o → Returned s at k now birth aged
-      → (broken || (aged || eqb s.handles 0)) ≡ false
+      → doubt ≡ is_doubtful s.config broken → (doubt || (aged || eqb s.handles 0)) ≡ false
       → rs ≡ machine.after_entry false k (record { place = Idle c; birth = birth; entered = now }) s.records
       → Notices (machine.after_get_end g s.gets) n gs → s.counts ≡ counts_held was → since ≡ first_wait_of o
       → is ≡ given_up reason now since was
       → IsStep s at (GiveUp g (reason_of reason) (Some c) broken) (Kept k n)
       (record s { latest = now; records = rs; gets = gs; counts = counts_held is })
-  meets_given_up_kept {s} {at} {g} {k} reason {c} {broken} {now} {birth} {aged} {o} {since} {rs} {n} {gs} was {is} fit h r keep rs_is told were since_is counted =
-      meets_by (λ t. IsHeld t g k × (decided.closes t at k broken ≡ false)
+  meets_given_up_kept {s} {at} {g} {k} reason {c} {broken} {now} {birth} {aged} {doubt} {o} {since} {rs} {n} {gs} was {is} fit h r doubt_is keep rs_is told were since_is counted =
+      meets_by (λ t. IsHeld t g k × (decided.closes t at k (is_doubtful t.config broken) ≡ false)
       × (n ≡ slice_get (machine.after_get_end g t.gets).waiting 0) × (t.counts ≡ counts_held was))
       (λ t. record t {
         latest = max t.latest at;
         records = kept_records t at k c;
         gets = machine.after_notice n (machine.after_get_end g t.gets);
         counts = counts_held (given_up reason (max t.latest at) (first_wait_of (get t.gets.places g)) was);
-      }) s _ at (GiveUp g (reason_of reason) (Some c) broken) (Kept k n) fit (is_held h, closing_is broken r keep, told.who, were)
-      (same_shown _ _ refl refl h.now_is refl (kept_is c r rs_is) told.after
+      }) s _ at (GiveUp g (reason_of reason) (Some c) broken) (Kept k n) fit
+      (is_held h, closing_is (is_doubtful s.config broken) r (ap (λ (b : Bool). b || (aged || eqb s.handles 0)) (sym doubt_is) ∙ keep), told.who, were)
+      (same_shown _ _ refl refl refl h.now_is refl (kept_is c r rs_is) told.after
       (ap counts_held (given_up_shown s at g reason was h.now_is h.get_is since_is counted)))
       (λ l legal f known.
       let held = holds_in l g k known.0 in
       let st = held_record l g k legal held in
       let stood = holding_is (get_of l g) k held in (
-        gives_up_kept held (closes_is l at k broken ∙ known.1) (oldest_left l g k n held known.2),
-        same_shown _ _ refl refl refl refl (kept_shown l at k c st.0 st.1 st.2)
+        gives_up_kept held (closes_is l at k (is_doubtful (start l).config broken) ∙ known.1) (oldest_left l g k n held known.2),
+        same_shown _ _ refl refl refl refl refl (kept_shown l at k c st.0 st.1 st.2)
             (told_shown l g after_end true n _ (ended_gets l g stood.0 stood.1) known.2)
             (count_kept l at g k reason c broken n ∙ count_given_up l at g reason was known.3),
       ))
 
   -- the connection that is handed in is closed
-  pub meets_given_up_closed : {s : StateView C} {at g k : ℕ} (reason : Named) {c : C} {broken : Bool} {now birth : ℕ} {aged : Bool} {o : Option
+  pub meets_given_up_closed : {s : StateView C} {at g k : ℕ} (reason : Named) {c : C} {broken : Bool} {now birth : ℕ} {aged doubt : Bool} {o : Option
       Getting} {since : Option ℕ} {grant : Grant} {rs : RecordsView C} {n : Option ℕ} {gs : GetsView} (was : Counters)
       {mid is : Counters} → IsFitting s (GiveUp g (reason_of reason) (Some c) broken) → Holds s at g k now o → Returned s at k now birth aged
-      → (broken || (aged || eqb s.handles 0)) ≡ true → IsEndGrant s k grant → rs ≡ ended_records s k grant
+      → doubt ≡ is_doubtful s.config broken → (doubt || (aged || eqb s.handles 0)) ≡ true → IsEndGrant s k grant → rs ≡ ended_records s k grant
       → Notices (machine.after_get_end g s.gets) n gs → s.counts ≡ counts_held was → since ≡ first_wait_of o
-      → mid ≡ given_up reason now since was → is ≡ closed_counters mid broken aged
+      → mid ≡ given_up reason now since was → is ≡ closed_counters mid doubt (ltb k s.retired) aged
       → IsStep s at (GiveUp g (reason_of reason) (Some c) broken) (Closed k grant n)
       (record s { latest = now; records = rs; gets = gs; counts = counts_held is })
-  meets_given_up_closed {s} {at} {g} {k} reason {c} {broken} {now} {birth} {aged} {o} {since} {grant} {rs} {n} {gs} was {mid} {is} fit h r closing granted rs_is told were since_is counted is_is =
-      meets_by (λ t. IsHeld t g k × (decided.closes t at k broken ≡ true) × IsEndGrant t k grant
+  meets_given_up_closed {s} {at} {g} {k} reason {c} {broken} {now} {birth} {aged} {doubt} {o} {since} {grant} {rs} {n} {gs} was {mid} {is} fit h r doubt_is closing granted rs_is told were since_is counted is_is =
+      meets_by (λ t. IsHeld t g k × (decided.closes t at k (is_doubtful t.config broken) ≡ true) × IsEndGrant t k grant
       × (n ≡ slice_get (machine.after_get_end g t.gets).waiting 0) × (t.counts ≡ counts_held was))
       (λ t. record t {
         latest = max t.latest at;
         records = ended_records t k grant;
         gets = machine.after_notice n (machine.after_get_end g t.gets);
-        counts = counts_held (closed_counters (given_up reason (max t.latest at) (first_wait_of (get t.gets.places g)) was) broken (decided.is_old t at k));
-      }) s _ at (GiveUp g (reason_of reason) (Some c) broken) (Closed k grant n) fit (is_held h, closing_is broken r closing, granted, told.who, were)
-      (same_shown _ _ refl refl h.now_is refl rs_is told.after
-      (ap counts_held (closed_is mid broken r is_is
-      ∙ ap (λ (x : Counters). closed_counters x broken (decided.is_old s at k)) (given_up_shown s at g reason was h.now_is h.get_is since_is counted))))
+        counts = counts_held (closed_counters (given_up reason (max t.latest at) (first_wait_of (get t.gets.places g)) was) (is_doubtful t.config broken) (ltb k t.retired) (decided.is_old t at k));
+      }) s _ at (GiveUp g (reason_of reason) (Some c) broken) (Closed k grant n) fit
+      (is_held h, closing_is (is_doubtful s.config broken) r (ap (λ (b : Bool). b || (aged || eqb s.handles 0)) (sym doubt_is) ∙ closing), granted, told.who, were)
+      (same_shown _ _ refl refl refl h.now_is refl rs_is told.after
+      (ap counts_held (closed_is mid (is_doubtful s.config broken) r (is_is ∙ ap (λ (b : Bool). closed_counters mid b (ltb k s.retired) aged) doubt_is)
+      ∙ ap (λ (x : Counters). closed_counters x (is_doubtful s.config broken) (ltb k s.retired) (decided.is_old s at k)) (given_up_shown s at g reason was h.now_is h.get_is since_is counted))))
       (λ l legal f known.
       let held = holds_in l g k known.0 in
       let st = held_record l g k legal held in
       let stood = holding_is (get_of l g) k held in
       let ended = ended_shown l k st.0 grant st.1 st.2 known.2 in
       let was_then : Counters = given_up reason (max (latest l) at) (first_wait_of (get (shown l).gets.places g)) was in (
-        gives_up_closed held (closes_is l at k broken ∙ known.1) ended.0 (oldest_left l g k n held known.3),
-        same_shown _ _ refl refl refl refl ended.1 (told_shown l g after_end true n _ (ended_gets l g stood.0 stood.1) known.3)
+        gives_up_closed held (closes_is l at k (is_doubtful (start l).config broken) ∙ known.1) ended.0 (oldest_left l g k n held known.3),
+        same_shown _ _ refl refl refl refl refl ended.1 (told_shown l g after_end true n _ (ended_gets l g stood.0 stood.1) known.3)
             (count_closed l at g k reason c broken grant n
-            ∙ ap (λ (x : Counts). with_closing x broken (expires l at k)) (count_given_up l at g reason was known.4)
-            ∙ ap (λ (b : Bool). counts_held (closed_counters was_then broken b)) (old_shown l at k)),
+            ∙ ap (λ (x : Counts). with_closing x (is_doubtful (start l).config broken) (ltb k (retired l)) (expires l at k)) (count_given_up l at g reason was known.4)
+            ∙ ap (λ (b : Bool). counts_held (closed_counters was_then (is_doubtful (start l).config broken) (ltb k (retired l)) b)) (old_shown l at k)),
       ))

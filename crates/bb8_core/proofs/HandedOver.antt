@@ -5,9 +5,9 @@ use Rattle.bb8_core.specs.declared.answers.TryAnswer.{TryAnswer}
 use Rattle.bb8_core.specs.StepAnswers.{answer_of_try}
 use Rattle.bb8_core.specs.StateView.{Meets, Represents}
 use Rattle.bb8_tables.specs.Keys.{notified_of}
-use Rattle.bb8_core.specs.HandedOver.{Follows, HandsOn, HandsOver}
+use Rattle.bb8_core.specs.HandedOver.{Follows, HandsOn, StepsAndTries, StaysPrompt}
 use Rattle.bb8_ledger.specs.Handed.{told_by}
-use Rattle.bb8_ledger.proofs.Handed.{told_tries, handed_over}
+use Rattle.bb8_ledger.proofs.Handed.{told_tries, handed_over, prompt_then, prompt_tried}
 use Rattle.bb8_core.proofs.Runs.{shown_try}
 
 -- an answer that notifies, of an event that is allowed, is a row of the table
@@ -51,8 +51,23 @@ module _ {C : Type 0} where
 
   -- and a step and this try hand over
   pub hands_over : {s t : StateView C} (u : StateView C) (at : ℕ) (e : Act C) (a : Answer) (n : Option GetKey) (o : Option (TryAnswer C))
-      → Meets s at e a t → told_by a ≡ notified_of n → Follows t at n o u → HandsOver o s at e a u
+      → Meets s at e a t → told_by a ≡ notified_of n → Follows t at n o u → StepsAndTries o s at e a u
   hands_over {s} {t} u at e a None None step is same = (subst (λ (x : StateView C). Meets s at e a x) (sym same) step, is)
   hands_over {s} {t} u at e a (Some g) (Some tried) step is next = (g.number, is, t, step, next.0, next.1, hands_on at g.number e a (answer_of_try tried) step is next.0)
   hands_over {s} {t} u at e a None (Some tried) step is next = absurd next
   hands_over {s} {t} u at e a (Some g) None step is next = absurd next
+
+  -- so a prompt history stays prompt
+  pub stays_prompt : (s u : StateView C) (o : Option (TryAnswer C)) (at : ℕ) (e : Act C) (a : Answer) → StepsAndTries o s at e a u → StaysPrompt o s at e a
+  stays_prompt s u None at e a h = λ l legal means. prompt_then l at e a (h.0 l legal means).0 h.1
+  stays_prompt s u (Some tried) at e a (g, told, between, step, next, out, on) = (
+    g,
+    told,
+    λ l legal means.
+        let row = tries_on at g e a l legal means step told in
+        let now = step l legal means in
+        let later : IsLegal (Later l at e a) = (legal, now.0) in
+        let tries : Row (Later l at e a) at (Try g) (answer_of_try tried) =
+        subst (λ (x : Bool). MatchBool x (Row (Later l at e a) at (Try g) (answer_of_try tried)) (answer_of_try tried ≡ Unfit)) row.2 (next (Later l at e a) later now.1).0 in
+        prompt_tried l at at g e a (answer_of_try tried) row.0 told tries,
+  )

@@ -7,6 +7,7 @@ pub mod Fitting
 pub mod Steps
 pub mod GetEnds
 pub mod Reaps
+pub mod ClosesBelow
 pub mod Closings
 pub mod Runs
 pub mod AtOnce

@@ -1,5 +1,5 @@
 -- How many connections are out of the pool, step by step.
-use Rattle.bb8_core.proofs.Words.{◌≡◌, ℕ, ◌+◌, ◌-◌, ◌≤◌, length, true, false, Some, refl, sym, ap, ◌∙◌, subst, arith, Act, Begin, Try, CheckedErr, GiveUp, PutBack, Answer, Begun, Served, Taken, Kept, Closed, Unfit, Guarded, Held, Ledger, Later, records, conns, idle, idle_count, out, Row, waits_on, serves, takes_out, waits, checks, check_fails, gives_up_kept, gives_up_closed, keeps, returns_closed, fills, claims, opens, opens_late, fails, adds, reaps, leaves, fits, Allowed, IsLegal, Lent, StateView, shown_beside, Meets, HasLedger, idle_tally, conns_split, each_allowed, returns_turn, closes_turn, opens_turn, ends_turn, idle_turns, unclaimed_turns, stays_sized, turned_sized, adds_sized, granted_sized, reaped_sized, granted_reaped, left_sized, checks_turn, drops_turn, hands_in_turn}
+use Rattle.bb8_core.proofs.Words.{◌≡◌, ℕ, ◌+◌, ◌-◌, ◌≤◌, length, true, false, Some, refl, sym, ap, ◌∙◌, subst, arith, Act, Begin, Try, CheckedErr, GiveUp, PutBack, Detach, Answer, Begun, Served, Taken, Kept, Closed, Unfit, Guarded, Held, Ledger, Later, records, conns, idle, idle_count, out, Row, waits_on, serves, takes_out, waits, checks, check_fails, gives_up_kept, gives_up_closed, keeps, returns_closed, detaches, fills, asks_for, claims, opens, opens_late, fails, adds, reaps, retires, leaves, shuts, fits, Allowed, IsLegal, Lent, StateView, shown_beside, Meets, HasLedger, idle_tally, conns_split, each_allowed, returns_turn, closes_turn, opens_turn, ends_turn, idle_turns, unclaimed_turns, stays_sized, turned_sized, adds_sized, granted_sized, reaped_sized, retired_sized, granted_reaped, left_sized, shut_sized, checks_turn, drops_turn, hands_in_turn}
 use Rattle.bb8_core.specs.Parts.{out_of, IsCounted}
 use Rattle.bb8_core.proofs.Fitting.{shown, as_shown}
 use Rattle.bb8_core.proofs.Steps.{led}
@@ -25,6 +25,7 @@ module _ {C : Type 0} where
   coming (GiveUp g why held broken) (Closed k grant n) = 1
   coming (PutBack k c broken) (Kept m n) = 1
   coming (PutBack k c broken) (Closed m grant n) = 1
+  coming (Detach k) (Closed m grant n) = 1
   coming _ _ = 0
 
   -- an event that does not fit moves nothing
@@ -44,14 +45,18 @@ module _ {C : Type 0} where
   row_moves l at _ _ legal f (gives_up_closed {g} {k} {grant} holds_it shut want is) = omega (arith, (granted_sized false grant.count (turned_sized (drops_turn l g k legal holds_it))).out_are)
   row_moves l at _ _ legal f (keeps {k} {c} keep is) = omega (arith, (turned_sized (returns_turn l at k c f)).out_are)
   row_moves l at _ _ legal f (returns_closed {k} {grant} shut want is) = omega (arith, (granted_sized false grant.count (turned_sized (closes_turn l k f))).out_are)
+  row_moves l at _ _ legal f (detaches {k} {grant} want is) = omega (arith, (granted_sized false grant.count (turned_sized (closes_turn l k f))).out_are)
   row_moves l at _ _ legal f (fills {claimed} {grant} want) = omega (arith, (granted_sized claimed grant.count (stays_sized l)).out_are)
+  row_moves l at _ _ legal f (asks_for {grant} asked) = omega (arith, (granted_sized false grant.count (stays_sized l)).out_are)
   row_moves l at _ _ legal f (claims {k = Some k} open_now first) = omega (arith, (turned_sized (unclaimed_turns l k first)).out_are)
   row_moves l at _ _ legal f (opens {k} {c} open_now is) = omega (arith, (turned_sized (opens_turn l at k c f)).out_are)
   row_moves l at _ _ legal f (opens_late {k} none) = omega (arith, (turned_sized (ends_turn l k f)).out_are)
   row_moves l at _ _ legal f (fails {k}) = omega (arith, (turned_sized (ends_turn l k f)).out_are)
   row_moves l at _ _ legal f (adds {c} room few is who) = omega (arith, (adds_sized l at c).out_are)
   row_moves l at _ _ legal f (reaps {grant} open_now closed_is by_idle_is by_life_is want) = omega (arith, (granted_reaped grant.count (reaped_sized l at)).out_are)
+  row_moves l at _ _ legal f (retires {grant} open_now closed_is want) = omega (arith, (granted_reaped grant.count (retired_sized l at)).out_are)
   row_moves l at _ _ legal f (leaves {n} is) = omega (arith, (left_sized l at n).out_are)
+  row_moves l at _ _ legal f (shuts {n} is) = omega (arith, (shut_sized l).out_are)
   row_moves l at _ _ legal f _ = refl
 
   -- so does each event that is allowed
@@ -65,7 +70,8 @@ module _ {C : Type 0} where
     moves = ap (λ (n : ℕ). n + coming e a) (out_shown (Later l at e a)) ∙ moved_out l at e a legal allowed ∙ ap (λ (n : ℕ). n + going e a) (sym (out_shown l));
   }
 
-  -- A step of a state that means a legal ledger is counted. The old state is the view of the fields.
+  -- A step of a state that means a legal ledger is counted. The old state is the view of the
+  -- fields.
   pub counted : {s old : StateView C} (new : StateView C) (at : ℕ) (e : Act C) (a : Answer) → s ≡ old → HasLedger s → Meets old at e a new
       → IsCounted old (going e a) (coming e a) new
   counted {s} {old} new at e a is h meets =

@@ -32,7 +32,7 @@ module _ {C : Type 0} where
   -- ---- an event that does not fit changes nothing
 
   unfit_shown : (l : Ledger C) (at : ℕ) (e : Act C) → shown (Later l at e Unfit) ≡ shown l
-  unfit_shown l at e = same_shown _ _ refl refl refl refl (records_kept l) (gets_kept l) refl
+  unfit_shown l at e = same_shown _ _ refl refl refl refl refl (records_kept l) (gets_kept l) refl
 
   pub unfit_now : (l : Ledger C) (s : StateView C) (at : ℕ) (e : Act C) → fits l e ≡ false → Represents l s → Allowed l at e Unfit × Represents (Later l at e Unfit) s
   unfit_now l s at e misfit means = (unfitting (fits l e) _ _ misfit refl, beside (Later l at e Unfit) (unfit_shown l at e ∙ bare l means))

@@ -1,4 +1,5 @@
--- What the leave of the last handle does to what is shown: idle connections and unclaimed approvals end, one after another.
+-- What the leave of the last handle does to what is shown: idle connections and unclaimed approvals
+-- end, one after another.
 use Rattle.bb8_core.proofs.Words.{◌≡◌, ℕ, suc, ◌+◌, ◌-◌, ◌<◌, ◌≤◌, Bool, true, false, cond, eqb, ◌&&◌, ◌||◌, List, [], ◌∷◌, map, length, drop, slice_get, Option, Some, None, refl, sym, ap, ◌∙◌, arith, Place, Unclaimed, Idle, Standing, Numbered, at, update, numbers, in_order, tally, one, after_end, after_end_where, stands, is_conn, is_approval, is_unclaimed, is_idle, is_left, idle_at, conns_of, RecordsView, shown_records, change, Before, same_or_not, change_below, and_right, standing_is, unclaimed_is, idle_is, tested, ended_before, idle_counted, remove, standings, inl, inr}
 use Rattle.bb8_tables.specs.Machine as machine
 use Rattle.bb8_types.proofs.Numbered as numbered

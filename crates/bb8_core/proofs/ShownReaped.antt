@@ -1,4 +1,5 @@
--- What a reap does to what is shown: those that live too long end, wherever they stand in line, and then some from the front of the line.
+-- What a reap does to what is shown: those that live too long end, wherever they stand in line, and
+-- then some from the front of the line.
 use Rattle.bb8_core.proofs.Words.{◌≡◌, ◌≢◌, ℕ, zero, suc, ◌+◌, ◌-◌, ◌≤◌, Bool, true, false, cond, eqb, ◌&&◌, List, [], ◌∷◌, ◌++◌, map, filter, take, length, slice_get, Option, Some, None, option_and_then, ◌⊎◌, inl, inr, refl, sym, ap, ◌∙◌, arith, subst, eq-eqb, ne_eqb, unwrap_or, get, Standing, Settings, Numbered, at, update, numbers, in_order, tally, one, standing_at, after_end, after_end_where, stands, is_idle, idles_out, lives_out, Start, idle_at, idle_of, with_ended, outlived, idled, over_idle_at, RecordsView, after_reaped, after_reap, AreReaped, AreFirst, beyond, shown_records, change, same_or_not, at-below, Before, and_right, idle_counted, ended_all_before, ended_swept, over_idle, over_idle_line, lives_idle, idles_idle}
 use Rattle.std.proofs.lemmas.List.Elements.{filter-append}
 use Rattle.bb8_types.proofs.Numbered as numbered
@@ -94,7 +95,8 @@ module _ {C : Type 0} where
     abbrev swept : List (Numbered (Standing C)) → List (Numbered (Standing C))
     swept = map (after_end_where due)
 
-    -- Records of which those of these numbers ended: a sweep makes the same of them, and the tally has lost those that ended.
+    -- Records of which those of these numbers ended: a sweep makes the same of them, and the tally
+    -- has lost those that ended.
     record Ends (ks : List ℕ) (rs : List (Numbered (Standing C))) : Type 0 where
       pub to : List (Numbered (Standing C))
       pub shows : show to ≡ after_reap ks (show rs)

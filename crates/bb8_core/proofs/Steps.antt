@@ -1,5 +1,5 @@
 -- Each step, from what it does to what is shown to what it does on every legal ledger.
-use Rattle.bb8_core.proofs.Words.{◌≡◌, ℕ, suc, ◌+◌, ◌-◌, ◌*◌, ◌<◌, ◌≤◌, max, min, Bool, true, false, not, eqb, ◌&&◌, ◌||◌, List, length, Option, Some, None, slice_get, refl, sym, ap, ◌∙◌, arith, subst, is_some, MatchBool, ◌≢◌, IfSome, cond, ltb, get, nat_tests, Grant, Place, Claimed, Idle, Held, Guarded, Standing, Holding, Getting, Counters, counts_held, Counts, Figures, Act, Begin, Try, PutBack, Fill, Claim, Opened, Failed, Add, Join, Leave, Look, Answer, Begun, Memory, Exhausted, Served, Taken, Kept, Closed, Granted, Ended, Entered, Late, GivenBack, Broken, NoCapacity, Withheld, Added, Joined, Left, Looked, Numbered, update, one, after_end, at_entry, Ledger, Later, start, position, latest, handles, records, gets, peak, get_peak, alive, idle, record_of, get_of, idle_at, at_place, entry, with_approvals, idle_count, conns_of, approved_of, alive_of, counts, figures, wait_micros, next, with_notice, oldest_waiter, waiting, stands, first_of, first_place, first_wait_of, is_claimed, is_guarded, is_out, is_unnotified, is_trying, gets_stand, birth_in, is_expired, micros_since, Allowed, IsLegal, Row, begins, begin_refused, begin_exhausted, serves, keeps, returns_closed, takes_out, fills, claims, claim_ended, opens, opens_late, fails, fits, closes, IsWant, with_record, adds, add_broken, add_full, add_exhausted, add_refused, waits_on, waits, joins, join_exhausted, leaves, looks, due, lacking, IsGranted, IsNoGrant, StateView, shown_records, shown_gets, Represents, Meets, HasLedger, IsFitting, RecordsView, GetsView, Before, before_later, ne_test, standing_is, claimed_is, guarded_out, idle_from, unclaimed_from, conn_from, entered_before, waited_before, put_before, ended_before, peak_holds, get_peak_holds, idle_counted, idle_tally, trying_is, claimed_counted, waits_on_gets, end_of_numbers, most_handles, most_micros, State, ShownFigures, shows}
+use Rattle.bb8_core.proofs.Words.{◌≡◌, ℕ, suc, ◌+◌, ◌-◌, ◌*◌, ◌<◌, ◌≤◌, max, min, Bool, true, false, not, eqb, ◌&&◌, ◌||◌, List, length, Option, Some, None, slice_get, refl, sym, ap, ◌∙◌, arith, subst, is_some, MatchBool, ◌≢◌, IfSome, cond, ltb, get, nat_tests, Grant, Place, Claimed, Idle, Held, Guarded, Standing, Holding, Getting, Counters, counts_held, Counts, Figures, Act, Begin, Try, PutBack, Detach, Fill, Ask, Claim, Opened, Failed, Add, Join, Leave, Close, Look, Answer, Begun, Memory, Exhausted, Served, Taken, Kept, Closed, Granted, Ended, Entered, Late, GivenBack, Broken, NoCapacity, Withheld, Added, Joined, Left, Looked, Numbered, update, one, after_end, at_entry, Ledger, Later, start, position, latest, handles, records, gets, peak, get_peak, alive, idle, record_of, get_of, idle_at, at_place, entry, with_approvals, idle_count, conns, approved, conns_of, approved_of, alive_of, counts, figures, wait_micros, next, with_notice, oldest_waiter, waiting, stands, first_of, first_place, first_wait_of, is_claimed, is_guarded, is_out, is_unnotified, is_trying, gets_stand, birth_in, entered_in, is_checked, asks_check, is_expired, retired, expires, micros_since, Allowed, IsLegal, Row, begins, begin_refused, begin_exhausted, serves, keeps, returns_closed, detaches, takes_out, fills, asks_for, claims, claim_ended, opens, opens_late, fails, fits, closes, IsWant, with_record, adds, add_broken, add_full, add_exhausted, add_refused, waits_on, waits, joins, join_exhausted, leaves, shuts, looks, due, lacking, IsGranted, IsNoGrant, StateView, shown_records, shown_gets, Represents, Meets, HasLedger, IsFitting, RecordsView, GetsView, Before, before_later, ne_test, standing_is, claimed_is, guarded_out, idle_from, unclaimed_from, conn_from, entered_before, waited_before, put_before, ended_before, peak_holds, get_peak_holds, idle_counted, idle_tally, waiting_counted, trying_is, claimed_counted, waits_on_gets, end_of_numbers, most_handles, most_micros, State, ShownFigures, shows, detached}
 use Rattle.std.proofs.lemmas.Bool.Decides.{leb_tells}
 use Rattle.bb8_ledger.specs.Answers as answers
 use Rattle.bb8_tables.specs.Machine as machine
@@ -29,6 +29,19 @@ used_up {b} n is e = grind (arith, nat_tests, leb_tells (suc n) end_of_numbers)
 pub open_now : (n : ℕ) → n ≢ 0 → 0 < n
 open_now n h = omega arith
 
+-- a connection that comes back is closed as it is broken, or too old or retired, or the pool has
+-- ended: whichever is asked first
+regrouped : (b o e r : Bool) → (b || (o || (e || r))) ≡ (b || ((o || r) || e))
+regrouped true o e r = refl
+regrouped false true e r = refl
+regrouped false false true true = refl
+regrouped false false true false = refl
+regrouped false false false true = refl
+regrouped false false false false = refl
+
+pub regroup : (b o e r : Bool) {ended aged x : Bool} → ended ≡ (e || r) → aged ≡ (o || r) → (b || (o || ended)) ≡ x → (b || (aged || e)) ≡ x
+regroup b o e r ended_is aged_is h = ap (λ (z : Bool). b || (z || e)) aged_is ∙ sym (regrouped b o e r) ∙ ap (λ (z : Bool). b || (o || z)) (sym ended_is) ∙ h
+
 -- the first in line is notified, if there is one
 pub record Notices (was : GetsView) (n : Option ℕ) (gs : GetsView) : Type 0 where
   pub who : n ≡ slice_get was.waiting 0
@@ -42,16 +55,29 @@ served was now since = record was {
   wait_micros = min most_micros (was.wait_micros + micros_since now since);
 }
 
+-- nothing is added
+pub none_more : (m : ℕ) → m + 0 ≡ m
+none_more m = omega arith
+
 -- the counters after a connection was closed that came back
-abbrev pub closed_counters : Counters → Bool → Bool → Counters
-closed_counters was broken aged = record was { broken = was.broken + one broken; max_lifetime = was.max_lifetime + one (not broken && aged) }
+abbrev pub closed_counters : Counters → Bool → Bool → Bool → Counters
+closed_counters was broken retired aged = record was {
+  broken = was.broken + one broken;
+  retired = was.retired + one (not broken && retired);
+  max_lifetime = was.max_lifetime + one (not broken && (not retired && aged));
+}
+
+-- and after one has left
+abbrev pub detached_counters : Counters → Counters
+detached_counters was = record was { detached = was.detached + 1 }
 
 module _ {C : Type 0} where
-  pub same_shown : (s t : StateView C) → s.lent ≡ t.lent → s.config ≡ t.config → s.latest ≡ t.latest → s.handles ≡ t.handles → s.records ≡ t.records → s.gets ≡ t.gets → s.counts ≡ t.counts → s ≡ t
-  same_shown s t lent config latest handles records gets counts = λ i. record { config = config i; latest = latest i; handles = handles i; records = records i; gets = gets i; counts = counts i; lent = lent i }
+  pub same_shown : (s t : StateView C) → s.lent ≡ t.lent → s.config ≡ t.config → s.retired ≡ t.retired → s.latest ≡ t.latest → s.handles ≡ t.handles → s.records ≡ t.records → s.gets ≡ t.gets → s.counts ≡ t.counts → s ≡ t
+  same_shown s t lent config retired latest handles records gets counts = λ i. record { config = config i; retired = retired i; latest = latest i; handles = handles i; records = records i; gets = gets i; counts = counts i; lent = lent i }
 
-  -- What an event does to a state, as a fact that names the event and the answer: on each legal ledger that the state represents the answer is
-  -- allowed, and the ledger that it leads to shows this.
+  -- What an event does to a state, as a fact that names the event and the answer: on each legal
+  -- ledger that the state represents the answer is allowed, and the ledger that it leads to shows
+  -- this.
   pub record Step (s : StateView C) (at : ℕ) (e : Act C) (a : Answer) (new : StateView C) : Type 0 where
     pub leads : (l : Ledger C) → IsLegal l → Represents l s → Allowed l at e a × (shown (Later l at e a) ≡ new)
 
@@ -59,7 +85,8 @@ module _ {C : Type 0} where
   abbrev pub IsStep : StateView C → ℕ → Act C → Answer → StateView C → Type 0
   IsStep s at e a new = Step s at e a (unexamined new)
 
-  -- A step leads from a state that has a ledger to one that has one. The old state is the view of the fields.
+  -- A step leads from a state that has a ledger to one that has one. The old state is the view of
+  -- the fields.
   pub led : {s t : StateView C} (new : StateView C) (at : ℕ) (e : Act C) (a : Answer) → s ≡ t → HasLedger s → Meets t at e a new → HasLedger new
   led new at e a is h meets = let step = meets h.0 h.1 (as_shown h.0 is h.2) in (Later h.0 at e a, (h.1, step.0), step.1)
 
@@ -83,7 +110,8 @@ module _ {C : Type 0} where
   pub gets_kept : (l : Ledger C) → shown_gets (start l).first_get (suc (position l)) (max (get_peak l) (alive l)) (gets l) ≡ (shown l).gets
   gets_kept l = shown-kept (start l).first_get (position l) (get_peak l) (gets l) (waited_before l) (get_peak_holds l)
 
-  -- A step is proved of what a ledger shows: what is known of the state is known of that, and the new state is told by the old one.
+  -- A step is proved of what a ledger shows: what is known of the state is known of that, and the
+  -- new state is told by the old one.
   pub meets_by : (Known : StateView C → Type 0) (next : StateView C → StateView C) (s new : StateView C) (at : ℕ) (e : Act C) (a : Answer) → IsFitting s e
       → Known (unexamined s) → new ≡ next (unexamined s) → ((l : Ledger C) → IsLegal l → fits l e ≡ true → Known (shown l) → Row l at e a
       × (shown (Later l at e a) ≡ next (shown l))) → Step s at e a new
@@ -163,16 +191,17 @@ module _ {C : Type 0} where
   -- what is decided of a returned connection
   pub closes_is : (l : Ledger C) (at k : ℕ) (broken : Bool) → closes l at k broken ≡ decided.closes (shown l) at k broken
   closes_is l at k broken = ap (λ (o : Option (Standing C)). broken
-      || (is_expired (start l).config.max_lifetime (max (latest l) at) (birth_in o) || eqb (handles l) 0)) (shown_record l (shown l) refl k)
+      || ((is_expired (start l).config.max_lifetime (max (latest l) at) (birth_in o) || ltb k (retired l)) || eqb (handles l) 0)) (shown_record l (shown l) refl k)
 
   -- what the code knows when a connection has come back
   pub record Returned (s : StateView C) (at k now birth : ℕ) (aged : Bool) : Type 0 where
     pub now_is : now ≡ max s.latest at
     pub birth_is : birth ≡ birth_in (get s.records.places k)
-    pub aged_is : aged ≡ is_expired s.config.max_lifetime now birth
+    pub aged_is : aged ≡ (is_expired s.config.max_lifetime now birth || ltb k s.retired)
 
   old_is : (s : StateView C) (at k now birth : ℕ) (aged : Bool) → Returned s at k now birth aged → decided.is_old s at k ≡ aged
-  old_is s at k now birth aged r = sym (r.aged_is ∙ ap (λ (n : ℕ). is_expired s.config.max_lifetime n birth) r.now_is ∙ ap (is_expired s.config.max_lifetime (max s.latest at)) r.birth_is)
+  old_is s at k now birth aged r = sym (r.aged_is ∙ ap (λ (n : ℕ). is_expired s.config.max_lifetime n birth || ltb k s.retired) r.now_is
+      ∙ ap (λ (n : ℕ). is_expired s.config.max_lifetime (max s.latest at) n || ltb k s.retired) r.birth_is)
 
   -- so what the code decides of it is what is decided
   pub closing_is : {s : StateView C} {at k now birth : ℕ} {aged closing : Bool} (broken : Bool) → Returned s at k now birth aged
@@ -230,25 +259,25 @@ module _ {C : Type 0} where
       meets_by (λ t. (decided.closes t at k broken ≡ false) × (n ≡ slice_get t.gets.waiting 0))
       (λ t. record t { latest = max t.latest at; records = kept_records t at k c; gets = machine.after_notice n t.gets }) s _ at
       (PutBack k c broken) (Kept k n) fit (closing_is broken r keep, told.who)
-      (same_shown _ _ refl refl r.now_is refl (kept_is c r rs_is) told.after refl)
+      (same_shown _ _ refl refl refl r.now_is refl (kept_is c r rs_is) told.after refl)
       (λ l legal f known.
       let st = standing_is is_guarded (record_of l k) f in (
         keeps (closes_is l at k broken ∙ known.0) known.1,
-        same_shown _ _ refl refl refl refl (kept_shown l at k c st.0 st.1 (guarded_out st.0.place st.2)) (gets_told l n known.1) refl,
+        same_shown _ _ refl refl refl refl refl (kept_shown l at k c st.0 st.1 (guarded_out st.0.place st.2)) (gets_told l n known.1) refl,
       ))
 
   -- what the code counts of it is what is decided
   pub closed_is : {s : StateView C} {at k now birth : ℕ} {aged : Bool} (was : Counters) {is : Counters} (broken : Bool)
-      → Returned s at k now birth aged → is ≡ closed_counters was broken aged → is ≡ closed_counters was broken (decided.is_old s at k)
-  closed_is {s} {at} {k} {now} {birth} {aged} was broken r is_is = is_is ∙ ap (closed_counters was broken) (sym (old_is s at k now birth aged r))
+      → Returned s at k now birth aged → is ≡ closed_counters was broken (ltb k s.retired) aged → is ≡ closed_counters was broken (ltb k s.retired) (decided.is_old s at k)
+  closed_is {s} {at} {k} {now} {birth} {aged} was broken r is_is = is_is ∙ ap (closed_counters was broken (ltb k s.retired)) (sym (old_is s at k now birth aged r))
 
-  pub old_shown : (l : Ledger C) (at k : ℕ) → is_expired (start l).config.max_lifetime (max (latest l) at) (birth_in (record_of l k)) ≡ decided.is_old (shown l) at k
-  old_shown l at k = ap (λ (o : Option (Standing C)). is_expired (start l).config.max_lifetime (max (latest l) at) (birth_in o)) (shown_record l (shown l) refl k)
+  pub old_shown : (l : Ledger C) (at k : ℕ) → expires l at k ≡ decided.is_old (shown l) at k
+  old_shown l at k = ap (λ (o : Option (Standing C)). is_expired (start l).config.max_lifetime (max (latest l) at) (birth_in o) || ltb k (retired l)) (shown_record l (shown l) refl k)
 
   pub meets_returned_closed : {s : StateView C} {at k : ℕ} {c : C} {broken : Bool} {now birth : ℕ} {aged : Bool} {grant : Grant} {rs : RecordsView
       C} {n : Option ℕ} {gs : GetsView} (was : Counters) {is : Counters} → IsFitting s (PutBack k c broken) → Notices s.gets n gs
       → Returned s at k now birth aged → (broken || (aged || eqb s.handles 0)) ≡ true → IsEndGrant s k grant → rs ≡ ended_records s k grant
-      → s.counts ≡ counts_held was → is ≡ closed_counters was broken aged
+      → s.counts ≡ counts_held was → is ≡ closed_counters was broken (ltb k s.retired) aged
       → IsStep s at (PutBack k c broken) (Closed k grant n)
       (record s { latest = now; records = rs; gets = gs; counts = counts_held is })
   meets_returned_closed {s} {at} {k} {c} {broken} {now} {birth} {aged} {grant} {rs} {n} {gs} was {is} fit told r closing granted rs_is were is_is =
@@ -257,19 +286,37 @@ module _ {C : Type 0} where
         latest = max t.latest at;
         records = ended_records t k grant;
         gets = machine.after_notice n t.gets;
-        counts = counts_held (closed_counters was broken (decided.is_old t at k));
+        counts = counts_held (closed_counters was broken (ltb k t.retired) (decided.is_old t at k));
       }) s _ at (PutBack k c broken) (Closed k grant n) fit (closing_is broken r closing, granted, told.who, were)
-      (same_shown _ _ refl refl r.now_is refl rs_is told.after (ap counts_held (closed_is was broken r is_is)))
+      (same_shown _ _ refl refl refl r.now_is refl rs_is told.after (ap counts_held (closed_is was broken r is_is)))
       (λ l legal f known.
       let st = standing_is is_guarded (record_of l k) f in
       let ended = ended_shown l k st.0 grant st.1 (guarded_out st.0.place st.2) known.1 in (
         returns_closed (closes_is l at k broken ∙ known.0) ended.0 known.2,
-        same_shown _ _ refl refl refl refl ended.1 (gets_told l n known.2)
+        same_shown _ _ refl refl refl refl refl ended.1 (gets_told l n known.2)
             (ap (λ (x : Counts). record x {
               broken = x.broken + one broken;
-              max_lifetime = x.max_lifetime + one (not broken && is_expired (start l).config.max_lifetime (max (latest l) at) (birth_in (record_of l k)));
+              retired = x.retired + one (not broken && ltb k (retired l));
+              max_lifetime = x.max_lifetime + one (not broken && (not (ltb k (retired l)) && expires l at k));
             }) known.3
-            ∙ ap (λ (b : Bool). counts_held (closed_counters was broken b)) (old_shown l at k)),
+            ∙ ap (λ (b : Bool). counts_held (closed_counters was broken (ltb k (retired l)) b)) (old_shown l at k)),
+      ))
+
+  -- a guard leaves with its connection
+  pub meets_detached : {s : StateView C} {at k now : ℕ} {grant : Grant} {rs : RecordsView C} {n : Option ℕ} {gs : GetsView} (was : Counters) {is : Counters} → now ≡ max s.latest at
+      → IsFitting s (Detach k) → Notices s.gets n gs → IsEndGrant s k grant → rs ≡ ended_records s k grant → s.counts ≡ counts_held was → is ≡ detached_counters was
+      → IsStep s at (Detach k) (Closed k grant n) (record s { latest = now; records = rs; gets = gs; counts = counts_held is })
+  meets_detached {s} {at} {k} {now} {grant} {rs} {n} {gs} was {is} now_is fit told granted rs_is were is_is =
+      meets_by (λ t. IsEndGrant t k grant × (n ≡ slice_get t.gets.waiting 0) × (t.counts ≡ counts_held was))
+      (λ t. record t { latest = max t.latest at; records = ended_records t k grant; gets = machine.after_notice n t.gets; counts = counts_held (detached_counters was) }) s _ at
+      (Detach k) (Closed k grant n) fit (granted, told.who, were)
+      (same_shown _ _ refl refl refl now_is refl rs_is told.after (ap counts_held is_is))
+      (λ l legal f known.
+      let st = standing_is is_guarded (record_of l k) f in
+      let ended = ended_shown l k st.0 grant st.1 (guarded_out st.0.place st.2) known.0 in (
+        detaches ended.0 known.1,
+        same_shown _ _ refl refl refl refl refl ended.1 (gets_told l n known.1)
+            (ap (λ (m : ℕ). record (counts l) { broken = m; detached = detached l + 1 }) (none_more ((counts l).broken)) ∙ ap (λ (x : Counts). record x { detached = x.detached + 1 }) known.2),
       ))
 
   -- what a state shows is what its ledger tells
@@ -294,6 +341,13 @@ module _ {C : Type 0} where
       ap (λ (x : Counts). record x { direct = x.direct + one (not (is_some since)); waited = x.waited + one (is_some since); wait_time = 1000 * min most_micros (wait_micros l + wait) }) were
       ∙ ap (λ (m : ℕ). record (counts_held (served was (max (latest l) at) since)) { wait_time = 1000 * min most_micros (m + wait) }) (same_micros l was were)
       ∙ ap (λ (o : Option Getting). counts_held (served was (max (latest l) at) (first_wait_of o))) (shown_get l (shown l) refl g)
+
+  -- whether what goes out is checked is what is decided
+  checked_is : (l : Ledger C) (at k : ℕ) → asks_check l at k ≡ decided.asks_check (shown l) at k
+  checked_is l at k = ap (λ (o : Option (Standing C)). is_checked (start l).config (max (latest l) at) (entered_in o)) (shown_record l (shown l) refl k)
+
+  checked_at : (s : StateView C) (at : ℕ) {now : ℕ} (k : ℕ) → now ≡ max s.latest at → decided.asks_check s at k ≡ is_checked s.config now (entered_in (get s.records.places k))
+  checked_at s at k now_is = ap (λ (m : ℕ). is_checked s.config m (entered_in (get s.records.places k))) (sym now_is)
 
   -- what the code knows when a get tries
   pub record Tries (s : StateView C) (g : ℕ) (o : Option Getting) : Type 0 where
@@ -355,16 +409,16 @@ module _ {C : Type 0} where
     -- an event that changes the latest moment alone
     pub meets_quiet : (Known : StateView C → Type 0) {rs : RecordsView C} {gs : GetsView} (e : Act C) (a : Answer) → IsFitting s e → Known (unexamined s) → rs ≡ s.records → gs ≡ s.gets
         → ((l : Ledger C) → (latest (Later l at e a) ≡ max (latest l) at) × (handles (Later l at e a) ≡ handles l)
-        × (counts (Later l at e a) ≡ counts l)) → ((l : Ledger C) → IsLegal l → fits l e ≡ true → Known (shown l) → Row l at e a
+        × (counts (Later l at e a) ≡ counts l) × (retired (Later l at e a) ≡ retired l)) → ((l : Ledger C) → IsLegal l → fits l e ≡ true → Known (shown l) → Row l at e a
         × (records (Later l at e a) ≡ records l) × (gets (Later l at e a) ≡ gets l))
         → IsStep s at e a (record s { latest = now; records = rs; gets = gs })
     meets_quiet Known e a fit known rs_is gs_is quiet row =
-        meets_by Known (λ t. record t { latest = max t.latest at }) s _ at e a fit known (same_shown _ _ refl refl now_is refl rs_is gs_is refl)
+        meets_by Known (λ t. record t { latest = max t.latest at }) s _ at e a fit known (same_shown _ _ refl refl refl now_is refl rs_is gs_is refl)
         (λ l legal f k.
         let same = quiet l in
         let r = row l legal f k in (
           r.0,
-          same_shown _ _ refl refl same.0 same.1
+          same_shown _ _ refl refl same.3 same.0 same.1
               (ap (λ (xs : List (Numbered (Standing C))). shown_records (start l).first (suc (position l)) (max (peak l) (conns_of xs + approved_of xs)) xs) r.1 ∙ records_kept l)
               (ap (λ (xs : List (Numbered Getting)). shown_gets (start l).first_get (suc (position l)) (max (get_peak l) (alive_of xs)) xs) r.2 ∙ gets_kept l)
               same.2,
@@ -374,11 +428,30 @@ module _ {C : Type 0} where
     meets_fill {claimed} {g} {rs} granted =
         meets_by (λ t. machine.IsGrant t.records (decided.want t.config t.handles t.records) g)
         (λ t. record t { latest = max t.latest at; records = machine.after_grant claimed g t.records }) s _ at (Fill claimed) (Granted g)
-        (λ l legal means. refl) granted.granted (same_shown _ _ refl refl now_is refl granted.after refl refl)
+        (λ l legal means. refl) granted.granted (same_shown _ _ refl refl refl now_is refl granted.after refl refl)
         (λ l legal f granted_l. (
           fills (want_is l (records l) g _ (entered_before l) refl granted_l),
-          same_shown _ _ refl refl refl refl
+          same_shown _ _ refl refl refl refl refl
               (changed claimed l g.count (records l) _ (later_shown l)) (gets_kept l) refl,
+        ))
+
+    pub meets_ask : {waiting_now due_now : ℕ} {g : Grant} {rs : RecordsView C} → waiting_now ≡ length s.gets.waiting
+        → due_now ≡ due s.config s.handles (s.records.conns + s.records.approved) (waiting_now - s.records.approved)
+        → machine.IsGrant s.records due_now g → rs ≡ machine.after_grant false g s.records
+        → IsStep s at Ask (Granted g) (record s { latest = now; records = rs })
+    meets_ask {waiting_now} {due_now} {g} {rs} waiting_is due_is granted rs_is =
+        meets_by (λ t. machine.IsGrant t.records
+        (due t.config t.handles (t.records.conns + t.records.approved) (length t.gets.waiting - t.records.approved)) g)
+        (λ t. record t { latest = max t.latest at; records = machine.after_grant false g t.records }) s _ at Ask (Granted g)
+        (λ l legal means. refl)
+        (subst (λ (m : ℕ). machine.IsGrant s.records m g)
+        (due_is ∙ ap (λ (n : ℕ). due s.config s.handles (s.records.conns + s.records.approved) (n - s.records.approved)) waiting_is) granted)
+        (same_shown _ _ refl refl refl now_is refl rs_is refl refl)
+        (λ l legal f granted_l. (
+          asks_for (subst (λ (m : ℕ). IsGranted (next l) (conns l + approved l) (peak l)
+              (due (start l).config (handles l) (conns l + approved l) (m - approved l)) g) (waiting_counted l) granted_l),
+          same_shown _ _ refl refl refl refl refl
+              (changed false l g.count (records l) _ (later_shown l)) (gets_kept l) refl,
         ))
 
     pub meets_claim : {k : ℕ} {rs : RecordsView C} → s.handles ≢ 0
@@ -387,22 +460,22 @@ module _ {C : Type 0} where
     meets_claim {k} {rs} alive_now first rs_is =
         meets_by (λ t. (0 < t.handles) × (slice_get t.records.unclaimed 0 ≡ Some k))
         (λ t. record t { latest = max t.latest at; records = machine.after_claim k t.records }) s _ at Claim (answers.Claimed (Some k))
-        (λ l legal means. refl) (open_now _ alive_now, first) (same_shown _ _ refl refl now_is refl rs_is refl refl) (λ l legal f known.
+        (λ l legal means. refl) (open_now _ alive_now, first) (same_shown _ _ refl refl refl now_is refl rs_is refl refl) (λ l legal f known.
         let is : shown_records (start l).first (suc (position l)) (peak l) (update (start l).first k (at_place Claimed) (records l)) ≡ machine.after_claim k (shown l).records =
         shown-claimed (start l).first (suc (position l)) (peak l) (records l) k known.1 ∙ ap (machine.after_claim k) (later_shown l) in
-        (claims known.0 known.1, same_shown _ _ refl refl refl refl (still_raised l _ _ is (peak_holds l)) (gets_kept l) refl))
+        (claims known.0 known.1, same_shown _ _ refl refl refl refl refl (still_raised l _ _ is (peak_holds l)) (gets_kept l) refl))
 
     pub meets_claim_none : {rs : RecordsView C} → s.handles ≢ 0
         → slice_get s.records.unclaimed 0 ≡ None → rs ≡ s.records
         → IsStep s at Claim (answers.Claimed None) (record s { latest = now; records = rs })
     meets_claim_none {rs} alive_now none rs_is =
         meets_quiet (λ t. (0 < t.handles) × (slice_get t.records.unclaimed 0 ≡ None)) Claim (answers.Claimed None)
-        (λ l legal means. refl) (open_now _ alive_now, none) rs_is refl (λ l. (refl, refl, refl))
+        (λ l legal means. refl) (open_now _ alive_now, none) rs_is refl (λ l. (refl, refl, refl, refl))
         (λ l legal f known. (claims known.0 known.1, refl, refl))
 
     pub meets_claim_ended : s.handles ≡ 0 → IsStep s at Claim Ended (record s { latest = now })
     meets_claim_ended ended_now =
-        meets_quiet (λ t. t.handles ≡ 0) Claim Ended (λ l legal means. refl) ended_now refl refl (λ l. (refl, refl, refl))
+        meets_quiet (λ t. t.handles ≡ 0) Claim Ended (λ l legal means. refl) ended_now refl refl (λ l. (refl, refl, refl, refl))
         (λ l legal f none. (claim_ended none, refl, refl))
 
     pub meets_opened : {k : ℕ} (c : C) {rs : RecordsView C} {n : Option ℕ} {gs : GetsView} {new : Counts} → IsFitting s (Opened k c) → s.handles ≢ 0
@@ -418,27 +491,27 @@ module _ {C : Type 0} where
           counts = record t.counts { created = t.counts.created + 1 };
         }) s _ at (Opened k c) (Entered k n) fit
         (open_now _ alive_now, told.who)
-        (same_shown _ _ refl refl now_is refl (rs_is ∙ ap (λ (m : ℕ). machine.after_entry true k (record { place = Idle c; birth = m; entered = m }) s.records) now_is) told.after new_is)
+        (same_shown _ _ refl refl refl now_is refl (rs_is ∙ ap (λ (m : ℕ). machine.after_entry true k (record { place = Idle c; birth = m; entered = m }) s.records) now_is) told.after new_is)
         (λ l legal f known.
         let st = standing_is is_claimed (record_of l k) f in
         let some : 1 ≤ approved_of (records l) = claimed_counted l k st.0 st.1 (claimed_is st.0.place st.2) in
         let few : conns_of (records l) + approved_of (records l) ≤ peak l = peak_holds l in
         let is = shown-entered (start l).first (position l) (peak l) (records l) true k st.0 c (max (latest l) at) (max (latest l) at)
         (λ r. entry c (max (latest l) at) (max (latest l) at) (position l)) (entered_before l) st.1 st.2 (λ r e. refl) in
-        (opens known.0 known.1, same_shown _ _ refl refl refl refl (ap machine.with_peak is ∙ raised_same _ (omega arith)) (gets_told l n known.1) refl))
+        (opens known.0 known.1, same_shown _ _ refl refl refl refl refl (ap machine.with_peak is ∙ raised_same _ (omega arith)) (gets_told l n known.1) refl))
 
     pub meets_late : {k : ℕ} (c : C) {rs : RecordsView C} → IsFitting s (Opened k c) → s.handles ≡ 0 → rs ≡ machine.after_close true k s.records
         → IsStep s at (Opened k c) (Late k) (record s { latest = now; records = rs })
     meets_late {k} c {rs} fit ended_now rs_is =
         meets_by (λ t. t.handles ≡ 0) (λ t. record t { latest = max t.latest at; records = machine.after_close true k t.records }) s _ at
-        (Opened k c) (Late k) fit ended_now (same_shown _ _ refl refl now_is refl rs_is refl refl)
-        (λ l legal f none. (opens_late none, same_shown _ _ refl refl refl refl (approval_ended l k f) (gets_kept l) refl))
+        (Opened k c) (Late k) fit ended_now (same_shown _ _ refl refl refl now_is refl rs_is refl refl)
+        (λ l legal f none. (opens_late none, same_shown _ _ refl refl refl refl refl (approval_ended l k f) (gets_kept l) refl))
 
     pub meets_failed : {k : ℕ} {rs : RecordsView C} → IsFitting s (Failed k) → rs ≡ machine.after_close true k s.records → IsStep s at (Failed k) GivenBack (record s { latest = now; records = rs })
     meets_failed {k} {rs} fit rs_is =
         meets_by (λ t. Unit {0}) (λ t. record t { latest = max t.latest at; records = machine.after_close true k t.records }) s _ at
-        (Failed k) GivenBack fit tt (same_shown _ _ refl refl now_is refl rs_is refl refl)
-        (λ l legal f known. (fails, same_shown _ _ refl refl refl refl (approval_ended l k f) (gets_kept l) refl))
+        (Failed k) GivenBack fit tt (same_shown _ _ refl refl refl now_is refl rs_is refl refl)
+        (λ l legal f known. (fails, same_shown _ _ refl refl refl refl refl (approval_ended l k f) (gets_kept l) refl))
 
     pub meets_begun : {n : ℕ} {gs : GetsView} {new : Counts} → IsFitting s Begin → s.gets.next < end_of_numbers → gs ≡ machine.after_begin s.gets
         → new ≡ record s.counts { started = s.counts.started + 1 }
@@ -450,10 +523,10 @@ module _ {C : Type 0} where
           gets = machine.after_begin t.gets;
           counts = record t.counts { started = t.counts.started + 1 };
         }) s _ at Begin (Begun n) fit (few, n_is)
-        (same_shown _ _ refl refl now_is refl refl gs_is new_is)
+        (same_shown _ _ refl refl refl now_is refl refl gs_is new_is)
         (λ l legal f known. (
           begins known.1 (subst (λ (m : ℕ). m < end_of_numbers) (sym known.1) known.0),
-          same_shown _ _ refl refl refl refl
+          same_shown _ _ refl refl refl refl refl
               (records_kept l) (shown-begun (start l).first_get (position l) (get_peak l) (gets l) (waited_before l) (get_peak_holds l)) refl,
         ))
 
@@ -461,26 +534,26 @@ module _ {C : Type 0} where
         → IsStep s at Begin Memory (record s { latest = now; gets = gs })
     meets_memory {gs} fit few full gs_is =
         meets_quiet (λ t. (t.gets.next < end_of_numbers) × (t.gets.alive ≡ t.gets.peak)) Begin Memory fit (few, full) refl gs_is
-        (λ l. (refl, refl, refl)) (λ l legal f known. (begin_refused known.0 known.1, refl, refl))
+        (λ l. (refl, refl, refl, refl)) (λ l legal f known. (begin_refused known.0 known.1, refl, refl))
 
     pub meets_exhausted : IsFitting s Begin → end_of_numbers ≤ s.gets.next → IsStep s at Begin Exhausted (record s { latest = now })
     meets_exhausted fit many = meets_quiet
-        (λ t. end_of_numbers ≤ t.gets.next) Begin Exhausted fit many refl refl (λ l. (refl, refl, refl))
+        (λ t. end_of_numbers ≤ t.gets.next) Begin Exhausted fit many refl refl (λ l. (refl, refl, refl, refl))
         (λ l legal f known. (begin_exhausted known, refl, refl))
 
     pub meets_state : {f : Figures} → ((l : Ledger C) → Represents l s → f ≡ figures l) → IsStep s at State (ShownFigures f) (record s { latest = now })
     meets_state {f} told = meets_quiet (λ t. (l : Ledger C) → Represents l t → f ≡ figures l) State (ShownFigures f)
-        (λ l legal means. refl) (λ l means. told l (beside l means)) refl refl (λ l. (refl, refl, refl))
+        (λ l legal means. refl) (λ l means. told l (beside l means)) refl refl (λ l. (refl, refl, refl, refl))
         (λ l legal fit known. (subst (λ (x : Figures). Row l at State (ShownFigures x)) (sym (known l refl)) shows, refl, refl))
 
     pub meets_served : {g k : ℕ} {grant : Grant} {o : Option Getting} {since : Option ℕ} {rs : RecordsView C} {gs : GetsView} (was : Counters) {is : Counters}
         → Tries s g o → gets_stand is_unnotified o ≡ false
-        → s.config.test_on_check_out ≡ false → first_of s.config.queue_strategy s.records.idle ≡ Some k
+        → is_checked s.config now (entered_in (get s.records.places k)) ≡ false → first_of s.config.queue_strategy s.records.idle ≡ Some k
         → Grants s false (machine.after_take Guarded k s.records) grant rs → gs ≡ machine.after_get_end g s.gets → s.counts ≡ counts_held was
         → since ≡ first_wait_of o → is ≡ served was now since
         → IsStep s at (Try g) (Served k grant) (record s { latest = now; records = rs; gets = gs; counts = counts_held is })
     meets_served {g} {k} {grant} {o} {since} {rs} {gs} was {is} t not_waiting unchecked first granted gs_is were since_is counted =
-        meets_by (λ x. (gets_stand is_unnotified (get x.gets.places g) ≡ false) × (x.config.test_on_check_out ≡ false)
+        meets_by (λ x. (gets_stand is_unnotified (get x.gets.places g) ≡ false) × (decided.asks_check x at k ≡ false)
         × (first_of x.config.queue_strategy x.records.idle ≡ Some k) × IsTakeGrant x Guarded k grant × (x.counts ≡ counts_held was))
         (λ x. record x {
           latest = max x.latest at;
@@ -488,40 +561,41 @@ module _ {C : Type 0} where
           gets = machine.after_get_end g x.gets;
           counts = counts_held (served was (max x.latest at) (first_wait_of (get x.gets.places g)));
         }) s _ at (Try g) (Served k grant) t.fit
-        (ap (gets_stand is_unnotified) (sym t.get_is) ∙ not_waiting, unchecked, first, granted.granted, were)
-        (same_shown _ _ refl refl now_is refl granted.after gs_is
+        (ap (gets_stand is_unnotified) (sym t.get_is) ∙ not_waiting, checked_at s at k now_is ∙ unchecked, first, granted.granted, were)
+        (same_shown _ _ refl refl refl now_is refl granted.after gs_is
         (ap counts_held (counted ∙ ap (λ (m : ℕ). served was m since) now_is
         ∙ ap (served was (max s.latest at)) (since_is ∙ ap (λ (x : Option Getting). first_wait_of x) t.get_is))))
         (λ l legal f known.
         let st = trying_is l g f in
         let taken = taken_shown l Guarded k grant refl known.2 known.3 in (
-          serves (line_test l g false known.0) known.1 known.2 taken.0,
-          same_shown _ _ refl refl refl refl taken.1
+          serves (line_test l g false known.0) (checked_is l at k ∙ known.1) known.2 taken.0,
+          same_shown _ _ refl refl refl refl refl taken.1
               (shown-ended (start l).first_get (position l) (get_peak l) (gets l) g st.0 (waited_before l) (get_peak_holds l) st.1)
               (count_served l at g k grant was known.4),
         ))
 
     -- where it is checked, the get holds it
-    pub meets_taken : {g k : ℕ} {grant : Grant} {o : Option Getting} {rs : RecordsView C} {gs : GetsView} → Tries s g o → gets_stand is_unnotified o ≡ false → s.config.test_on_check_out ≡ true
+    pub meets_taken : {g k : ℕ} {grant : Grant} {o : Option Getting} {rs : RecordsView C} {gs : GetsView} → Tries s g o → gets_stand is_unnotified o ≡ false
+        → is_checked s.config now (entered_in (get s.records.places k)) ≡ true
         → first_of s.config.queue_strategy s.records.idle ≡ Some k → Grants s false (machine.after_take (Held g) k s.records) grant rs
         → gs ≡ machine.after_turn (Holding k) g s.gets
         → IsStep s at (Try g) (Taken k grant) (record s { latest = now; records = rs; gets = gs })
     meets_taken {g} {k} {grant} {o} {rs} {gs} t not_waiting checked first granted gs_is =
-        meets_by (λ x. (gets_stand is_unnotified (get x.gets.places g) ≡ false) × (x.config.test_on_check_out ≡ true)
+        meets_by (λ x. (gets_stand is_unnotified (get x.gets.places g) ≡ false) × (decided.asks_check x at k ≡ true)
         × (first_of x.config.queue_strategy x.records.idle ≡ Some k) × IsTakeGrant x (Held g) k grant)
         (λ x. record x {
           latest = max x.latest at;
           records = machine.after_grant false grant (machine.after_take (Held g) k x.records);
           gets = machine.after_turn (Holding k) g x.gets;
         }) s _ at (Try g) (Taken k grant) t.fit
-        (ap (gets_stand is_unnotified) (sym t.get_is) ∙ not_waiting, checked, first, granted.granted)
-        (same_shown _ _ refl refl now_is refl granted.after gs_is refl)
+        (ap (gets_stand is_unnotified) (sym t.get_is) ∙ not_waiting, checked_at s at k now_is ∙ checked, first, granted.granted)
+        (same_shown _ _ refl refl refl now_is refl granted.after gs_is refl)
         (λ l legal f known.
         let st = trying_is l g f in
         let off : gets_stand is_unnotified (get_of l g) ≡ false = line_test l g false known.0 in
         let taken = taken_shown l (Held g) k grant refl known.2 known.3 in (
-          takes_out off known.1 known.2 taken.0,
-          same_shown _ _ refl refl refl refl taken.1
+          takes_out off (checked_is l at k ∙ known.1) known.2 taken.0,
+          same_shown _ _ refl refl refl refl refl taken.1
               (shown-turned (start l).first_get (position l) (get_peak l) (gets l) (Holding k) g st.0 (waited_before l) (get_peak_holds l)
               st.1 (ap (gets_stand is_unnotified) (sym st.1) ∙ off) refl) refl,
         ))
@@ -533,7 +607,7 @@ module _ {C : Type 0} where
     meets_waits_on {g} {o} {grant} t waiting nothing =
         meets_quiet (λ x. (gets_stand is_unnotified (get x.gets.places g) ≡ true) × IsNoGrant x.records.next grant) (Try g)
         (answers.Waiting grant) t.fit (ap (gets_stand is_unnotified) (sym t.get_is) ∙ waiting, nothing) refl refl
-        (λ l. (refl, refl, refl))
+        (λ l. (refl, refl, refl, refl))
         (λ l legal f known.
         let on : gets_stand is_unnotified (get_of l g) ≡ true = ap (gets_stand is_unnotified) (shown_get l (shown l) refl g) ∙ known.0 in
         (waits_on on known.1, ap (λ (m : ℕ). with_approvals false m (records l)) known.1.count, waits_on_gets l at g on))
@@ -558,12 +632,12 @@ module _ {C : Type 0} where
           gets = machine.after_wait (max x.latest at) g x.gets;
         }) s _ at (Try g) (answers.Waiting grant) t.fit
         (ap (gets_stand is_unnotified) (sym t.get_is) ∙ not_waiting, none, granted_s)
-        (same_shown _ _ refl refl now_is refl (rs_is ∙ ap (machine.after_grant false grant) taken_is) (gs_is ∙ ap (λ (m : ℕ). machine.after_wait m g s.gets) now_is) refl)
+        (same_shown _ _ refl refl refl now_is refl (rs_is ∙ ap (machine.after_grant false grant) taken_is) (gs_is ∙ ap (λ (m : ℕ). machine.after_wait m g s.gets) now_is) refl)
         (λ l legal f known.
         let st = trying_is l g f in
         let off : gets_stand is_unnotified (get_of l g) ≡ false = line_test l g false known.0 in (
           waits off known.1 known.2,
-          same_shown _ _ refl refl refl refl (changed false l grant.count (records l) _ (later_shown l))
+          same_shown _ _ refl refl refl refl refl (changed false l grant.count (records l) _ (later_shown l))
               (shown-waits (start l).first_get (position l) (get_peak l) (gets l) (max (latest l) at) g st.0 (waited_before l)
               (get_peak_holds l) st.1 (ap (gets_stand is_unnotified) (sym st.1) ∙ off)) refl,
         ))
@@ -571,17 +645,17 @@ module _ {C : Type 0} where
     pub meets_look : {alive_now : Bool} → alive_now ≡ ltb 0 s.handles → IsStep s at Look (Looked now alive_now) (record s { latest = now })
     meets_look {alive_now} alive_is =
         meets_quiet (λ t. (now ≡ max t.latest at) × (alive_now ≡ ltb 0 t.handles)) Look (Looked now alive_now) (λ l legal means. refl)
-        (now_is, alive_is) refl refl (λ l. (refl, refl, refl)) (λ l legal f known. (looks known.0 known.1, refl, refl))
+        (now_is, alive_is) refl refl (λ l. (refl, refl, refl, refl)) (λ l legal f known. (looks known.0 known.1, refl, refl))
 
     pub meets_joined : IsFitting s Join → s.handles < most_handles → IsStep s at Join Joined (record s { latest = now; handles = s.handles + 1 })
     meets_joined fit few = meets_by (λ t. t.handles < most_handles)
         (λ t. record t { latest = max t.latest at; handles = t.handles + 1 }) s _ at Join Joined fit few
-        (same_shown _ _ refl refl now_is refl refl refl refl)
-        (λ l legal f known. (joins known, same_shown _ _ refl refl refl refl (records_kept l) (gets_kept l) refl))
+        (same_shown _ _ refl refl refl now_is refl refl refl refl)
+        (λ l legal f known. (joins known, same_shown _ _ refl refl refl refl refl (records_kept l) (gets_kept l) refl))
 
     pub meets_join_exhausted : IsFitting s Join → most_handles ≤ s.handles → IsStep s at Join Exhausted (record s { latest = now })
     meets_join_exhausted fit many =
-        meets_quiet (λ t. most_handles ≤ t.handles) Join Exhausted fit many refl refl (λ l. (refl, refl, refl))
+        meets_quiet (λ t. most_handles ≤ t.handles) Join Exhausted fit many refl refl (λ l. (refl, refl, refl, refl))
         (λ l legal f known. (join_exhausted known, refl, refl))
 
     pub meets_left_last : {n : ℕ} {rs : RecordsView C} → IsFitting s Leave → s.handles ≡ 1
@@ -590,7 +664,7 @@ module _ {C : Type 0} where
     meets_left_last {n} {rs} fit last n_is rs_is =
         meets_by (λ t. (t.handles ≡ 1) × (n ≡ length t.records.idle))
         (λ t. record t { latest = max t.latest at; handles = 0; records = machine.after_leave t.records }) s _ at Leave (Left n) fit
-        (last, n_is) (same_shown _ _ refl refl now_is refl rs_is refl refl)
+        (last, n_is) (same_shown _ _ refl refl refl now_is refl rs_is refl refl)
         (λ l legal f known.
         let on : eqb (handles l) 1 ≡ true = ap (λ (m : ℕ). eqb m 1) known.0 in
         let is : shown_records (start l).first (suc (position l)) (peak l) (shut (records l)) ≡ machine.after_leave (shown l).records =
@@ -599,30 +673,46 @@ module _ {C : Type 0} where
         let few : conns_of (records l) + approved_of (records l) ≤ peak l = peak_holds l in
         let fewer : (machine.after_leave (shown l).records).conns + (machine.after_leave (shown l).records).approved ≤ conns_of (records l) + approved_of (records l) = left_few (shown l).records in (
           leaves (known.1 ∙ idle_tally l ∙ ap (λ (b : Bool). cond b (idle_count l) 0) (sym on)),
-          same_shown _ _ refl refl refl (ap (λ (m : ℕ). m - 1) known.0) (ap (left_shown l) on ∙ still_raised l (shut (records l)) _ is (omega arith)) (gets_kept l) refl,
+          same_shown _ _ refl refl refl refl (ap (λ (m : ℕ). m - 1) known.0) (ap (left_shown l) on ∙ still_raised l (shut (records l)) _ is (omega arith)) (gets_kept l) refl,
         ))
 
     pub meets_left : IsFitting s Leave → s.handles ≢ 1 → IsStep s at Leave (Left 0) (record s { latest = now; handles = s.handles - 1 })
     meets_left fit more = meets_by (λ t. t.handles ≢ 1)
         (λ t. record t { latest = max t.latest at; handles = t.handles - 1 }) s _ at Leave (Left 0) fit more
-        (same_shown _ _ refl refl now_is refl refl refl refl)
+        (same_shown _ _ refl refl refl now_is refl refl refl refl)
         (λ l legal f known.
         let off : eqb (handles l) 1 ≡ false = ne_test (handles l) 1 known in
-        (leaves (ap (λ (b : Bool). cond b (idle_count l) 0) (sym off)), same_shown _ _ refl refl refl refl (ap (left_shown l) off ∙ records_kept l) (gets_kept l) refl))
+        (leaves (ap (λ (b : Bool). cond b (idle_count l) 0) (sym off)), same_shown _ _ refl refl refl refl refl (ap (left_shown l) off ∙ records_kept l) (gets_kept l) refl))
+
+    pub meets_shut : {n : ℕ} {rs : RecordsView C} → IsFitting s Close → n ≡ length s.records.idle → rs ≡ machine.after_leave s.records
+        → IsStep s at Close (Left n) (record s { latest = now; handles = 0; records = rs })
+    meets_shut {n} {rs} fit n_is rs_is =
+        meets_by (λ t. n ≡ length t.records.idle)
+        (λ t. record t { latest = max t.latest at; handles = 0; records = machine.after_leave t.records }) s _ at Close (Left n) fit
+        n_is (same_shown _ _ refl refl refl now_is refl rs_is refl refl)
+        (λ l legal f known.
+        let is : shown_records (start l).first (suc (position l)) (peak l) (shut (records l)) ≡ machine.after_leave (shown l).records =
+        shown-left (start l).first (suc (position l)) (peak l) (records l)
+        (before_later idle_at (records l) (position l) (entered_before l)) ∙ ap machine.after_leave (later_shown l) in
+        let few : conns_of (records l) + approved_of (records l) ≤ peak l = peak_holds l in
+        let fewer : (machine.after_leave (shown l).records).conns + (machine.after_leave (shown l).records).approved ≤ conns_of (records l) + approved_of (records l) = left_few (shown l).records in (
+          shuts (known ∙ idle_tally l),
+          same_shown _ _ refl refl refl refl refl (still_raised l (shut (records l)) _ is (omega arith)) (gets_kept l) refl,
+        ))
 
     -- a refusal changes the latest moment alone
     pub meets_add_broken : (c : C) → IsFitting s (Add c true) → IsStep s at (Add c true) Broken (record s { latest = now })
-    meets_add_broken c fit = meets_quiet (λ t. Unit {0}) (Add c true) Broken fit tt refl refl (λ l. (refl, refl, refl)) (λ l legal f known. (add_broken, refl, refl))
+    meets_add_broken c fit = meets_quiet (λ t. Unit {0}) (Add c true) Broken fit tt refl refl (λ l. (refl, refl, refl, refl)) (λ l legal f known. (add_broken, refl, refl))
 
     pub meets_add_full : (c : C) → IsFitting s (Add c false) → s.records.conns + s.records.approved ≡ s.config.max_size → IsStep s at (Add c false) NoCapacity (record s { latest = now })
     meets_add_full c fit full =
         meets_quiet (λ t. t.records.conns + t.records.approved ≡ t.config.max_size) (Add c false) NoCapacity fit full refl refl
-        (λ l. (refl, refl, refl)) (λ l legal f known. (add_full known, refl, refl))
+        (λ l. (refl, refl, refl, refl)) (λ l legal f known. (add_full known, refl, refl))
 
     pub meets_add_exhausted : {c : C} → Adds s c → end_of_numbers ≤ s.records.next → IsStep s at (Add c false) Withheld (record s { latest = now })
     meets_add_exhausted {c} h many =
         meets_quiet (λ t. (t.records.conns + t.records.approved ≢ t.config.max_size) × (end_of_numbers ≤ t.records.next))
-        (Add c false) Withheld h.fit (h.room, many) refl refl (λ l. (refl, refl, refl))
+        (Add c false) Withheld h.fit (h.room, many) refl refl (λ l. (refl, refl, refl, refl))
         (λ l legal f known. (add_exhausted known.0 known.1, refl, refl))
 
     pub meets_add_refused : {c : C} {rs : RecordsView C} → Adds s c → s.records.next < end_of_numbers
@@ -631,7 +721,7 @@ module _ {C : Type 0} where
     meets_add_refused {c} {rs} h few full rs_is =
         meets_quiet (λ t. (t.records.conns + t.records.approved ≢ t.config.max_size) × (t.records.next < end_of_numbers)
         × (t.records.conns + t.records.approved ≡ t.records.peak)) (Add c false) Withheld h.fit (h.room, few, full) rs_is refl
-        (λ l. (refl, refl, refl)) (λ l legal f known. (add_refused known.0 known.1 known.2, refl, refl))
+        (λ l. (refl, refl, refl, refl)) (λ l legal f known. (add_refused known.0 known.1 known.2, refl, refl))
 
     pub meets_added : {k : ℕ} {c : C} {rs : RecordsView C} {n : Option ℕ} {gs : GetsView} → Adds s c
         → Notices s.gets n gs → s.records.next < end_of_numbers → k ≡ s.records.next → rs ≡ machine.with_peak (machine.after_birth c now s.records)
@@ -644,10 +734,10 @@ module _ {C : Type 0} where
           records = machine.with_peak (machine.after_birth c (max t.latest at) t.records);
           gets = machine.after_notice n t.gets;
         }) s _ at (Add c false) (Added k n) h.fit (h.room, few, k_is, told.who)
-        (same_shown _ _ refl refl now_is refl (rs_is ∙ ap (λ (m : ℕ). machine.with_peak (machine.after_birth c m s.records)) now_is) told.after refl)
+        (same_shown _ _ refl refl refl now_is refl (rs_is ∙ ap (λ (m : ℕ). machine.with_peak (machine.after_birth c m s.records)) now_is) told.after refl)
         (λ l legal f known. (
           adds known.0 known.1 known.2 known.3,
-          same_shown _ _ refl refl refl refl
+          same_shown _ _ refl refl refl refl refl
               (ap machine.with_peak (shown-born (start l).first (position l) (peak l) (records l) c (max (latest l) at) (entered_before l)))
               (gets_told l n known.3) refl,
         ))

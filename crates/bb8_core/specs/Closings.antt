@@ -1,11 +1,11 @@
--- The connections that a reap or the last leave closes, one by one.
+-- The connections that a reap, a retire, a close or the last leave closes, one by one.
 use Rattle.std.specs.Prelude.{◌≡◌, ℕ, cond, eqb, List, [], ◌∷◌, ⊤}
 use Rattle.circular_buffer.specs.Buffer.{Buffer}
 use Rattle.bb8_types.specs.Numbered.{tally}
 use Rattle.bb8_tables.specs.Closed.{offered_all}
 use Rattle.bb8_tables.specs.declared.closed.Closed.{Closed}
 use Rattle.bb8_ledger.specs.Ledger.{Ledger}
-use Rattle.bb8_ledger.specs.Table.{IsLegal, reaped_at}
+use Rattle.bb8_ledger.specs.Table.{IsLegal, reaped_at, retired_at}
 use Rattle.bb8_core.specs.declared.answers.ReapAnswer.{ReapAnswer}
 use Rattle.bb8_core.specs.declared.answers.ReapAnswer.TheVariants as reaping
 use Rattle.bb8_core.specs.StateView.{StateView, Represents}
@@ -27,13 +27,27 @@ module _ {C : Type 0} where
   ended_by (reaping.Reaped closed by_idle by_life grant) l at = reaped_at l at
   ended_by reaping.Ended l at = []
 
-  -- these are the numbers that the ledger's reap ends, in some order: each comes as often as there
-  abbrev pub ReapEnds : StateView C → ℕ → ReapAnswer → List ℕ → Type 0
-  ReapEnds s at a ks = (l : Ledger C) → IsLegal l → Represents l s → (k : ℕ) → tally (eqb k) ks ≡ tally (eqb k) (ended_by a l at)
+  -- the numbers that the ledger's retire ends, where the answer tells of one
+  abbrev pub retired_by : ReapAnswer → Ledger C → ℕ → List ℕ
+  retired_by (reaping.Reaped closed by_idle by_life grant) l at = retired_at l at
+  retired_by reaping.Ended l at = []
+
+  -- these are the numbers of a list that a ledger knows, in some order: each comes as often as
+  -- there
+  abbrev pub AreThose : StateView C → (Ledger C → List ℕ) → List ℕ → Type 0
+  AreThose s listed ks = (l : Ledger C) → IsLegal l → Represents l s → (k : ℕ) → tally (eqb k) ks ≡ tally (eqb k) (listed l)
 
   -- A reap offers the connections that it closes, in some order.
   abbrev pub OffersReaped : StateView C → ℕ → ReapAnswer → Buffer (Closed C) → Buffer (Closed C) → Type 0
-  OffersReaped s at a list offered = (ks : List ℕ) × Offers s ks list offered × ReapEnds s at a ks
+  OffersReaped s at a list offered = (ks : List ℕ) × Offers s ks list offered × AreThose s (λ l. ended_by a l at) ks
+
+  -- So does a retire.
+  abbrev pub OffersRetired : StateView C → ℕ → ReapAnswer → Buffer (Closed C) → Buffer (Closed C) → Type 0
+  OffersRetired s at a list offered = (ks : List ℕ) × Offers s ks list offered × AreThose s (λ l. retired_by a l at) ks
+
+  -- A close offers all idle connections, in line.
+  abbrev pub OffersShut : StateView C → Buffer (Closed C) → Buffer (Closed C) → Type 0
+  OffersShut s list offered = Offers s s.records.idle list offered
 
   -- The last leave offers all idle connections, in line; another one none.
   abbrev pub OffersLeft : StateView C → Buffer (Closed C) → Buffer (Closed C) → Type 0

@@ -1,7 +1,7 @@
 -- What a step decides by what is shown: what is due of approvals, and which connection is closed.
-use Rattle.std.specs.Prelude.{ℕ, ◌+◌, max, Bool, ◌||◌, eqb, length}
+use Rattle.std.specs.Prelude.{ℕ, ◌+◌, max, Bool, ◌||◌, eqb, ltb, length}
 use Rattle.std.specs.FinMap.{get}
-use Rattle.bb8_types.specs.Places.{birth_in, is_expired}
+use Rattle.bb8_types.specs.Places.{birth_in, entered_in, is_checked, is_expired}
 use Rattle.bb8_types.specs.Settings.{Settings}
 use Rattle.bb8_core.specs.StateView.{StateView}
 use Rattle.bb8_tables.specs.Views.{RecordsView}
@@ -12,9 +12,13 @@ module _ {C : Type 0} where
   abbrev pub want : Settings → ℕ → RecordsView C → ℕ
   want config handles s = due config handles (s.conns + s.approved) (lacking config (length s.idle + s.approved))
 
-  -- whether a connection has lived too long
+  -- whether a connection has lived too long, or was retired
   abbrev pub is_old : StateView C → ℕ → ℕ → Bool
-  is_old s at k = is_expired s.config.max_lifetime (max s.latest at) (birth_in (get s.records.places k))
+  is_old s at k = is_expired s.config.max_lifetime (max s.latest at) (birth_in (get s.records.places k)) || ltb k s.retired
+
+  -- whether a connection that goes out is checked before it is served
+  abbrev pub asks_check : StateView C → ℕ → ℕ → Bool
+  asks_check s at k = is_checked s.config (max s.latest at) (entered_in (get s.records.places k))
 
   -- whether a returned connection is closed
   abbrev pub closes : StateView C → ℕ → ℕ → Bool → Bool

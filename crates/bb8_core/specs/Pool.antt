@@ -1,6 +1,6 @@
 -- What the fields of a `PoolInternals` mean.
-use Rattle.std.specs.Prelude.{ℕ, Option, ltb, ◌≡◌, ◌≤◌}
-use Rattle.bb8_types.specs.Bounds.{last_moment}
+use Rattle.std.specs.Prelude.{ℕ, Option, eqb, ltb, ◌≡◌, ◌<◌, ◌≤◌, ◌||◌}
+use Rattle.bb8_types.specs.Bounds.{end_of_numbers, last_moment}
 use Rattle.bb8_types.specs.Places.{is_past}
 use Rattle.bb8_core.specs.declared.internals.PoolInternals.TheInside.{Inside}
 use Rattle.bb8_types.specs.Settings.{settings_of}
@@ -11,11 +11,22 @@ use Rattle.bb8_tables.specs.Counted.{counts_held}
 abbrev pub IsGreatestAge : Option ℕ → ℕ → Type 0
 IsGreatestAge limit greatest = (age : ℕ) → age ≤ last_moment → ltb greatest age ≡ is_past limit age
 
+-- just the connections with numbers below this one are closed when they come back, though they are
+-- neither broken nor too old
+abbrev pub ClosesBelow : ℕ → ℕ → ℕ → Type 0
+ClosesBelow handles retired below = (k : ℕ) → k < end_of_numbers → ltb k below ≡ (eqb handles 0 || ltb k retired)
+
+-- what the fields say that save a step its work
+pub record SavesWork (lifetime : Option ℕ) (greatest handles retired below : ℕ) : Type 0 where
+  pub age : IsGreatestAge lifetime greatest
+  pub closed : ClosesBelow handles retired below
+
 module _ {C A : Type 0} where
   -- what the fields show
   abbrev pub view_of : Inside C A → StateView C
   view_of a = record {
     config = settings_of a.config;
+    retired = a.retired;
     latest = a.latest;
     handles = a.handles;
     records = a.records;

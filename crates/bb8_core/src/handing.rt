@@ -1,18 +1,21 @@
-//! Steps that hand over: where one notifies a get, that get tries in the same call. So no other try comes between, and in a pool whose
-//! events all hand over gets are served in the order in which they began to wait. A close sends the get that it notifies to the end.
+//! Steps that hand over: where one notifies a get, that get tries in the same call. So no other try
+//! comes between, and in a pool whose events all hand over gets are handed connections in the order
+//! in which they began to wait. A get that is notified by a close, or whose check fails, loses its
+//! place.
 //!
-//! Each is the step of its name, and then that try.
+//! Each is the step of its name, and then that try. It can ask a pool no question that its state
+//! does not count.
 ghost use Rattle.std.specs.Prelude.{None, Some, IfSome, IfOk};
 ghost use Rattle.bb8_ledger.specs.Acts as acts;
-ghost use Rattle.bb8_core.specs.Unfit.{Stepped, OrComesBack};
-ghost use Rattle.bb8_core.specs.HandedOver.{HandsOver, Follows};
+ghost use Rattle.bb8_core.specs.Unfit.{Stepped, OrComesBack, answered};
+ghost use Rattle.bb8_core.specs.HandedOver.{StepsAndTries, Follows, StaysPrompt, TriesFew, LooksFew};
 ghost use Rattle.bb8_core.specs.StateView.{IsFitting, IsWithinLimits};
-ghost use Rattle.bb8_core.specs.StepAnswers.{answer_of_checked_err, answer_of_give_up, answer_of_put_back, answer_of_opened, answer_of_add, reason_of, GivesBack, GivesBackInvalid, GivesBackHeld, HandsBack, Refuses};
+ghost use Rattle.bb8_core.specs.StepAnswers.{answer_of_checked_err, answer_of_give_up, answer_of_put_back, answer_of_detach, answer_of_opened, answer_of_add, reason_of, GivesBack, GivesBackInvalid, GivesBackHeld, HandsBack, Refuses};
 
 use crate::api::Moment;
 use crate::internals::{
-    AddAnswer, CheckedErrAnswer, GetKey, GiveUpAnswer, Key, OpenedAnswer, PoolInternals,
-    PutBackAnswer, Reason, TryAnswer, Unfit,
+    AddAnswer, CheckedErrAnswer, DetachAnswer, GetKey, GiveUpAnswer, Key, OpenedAnswer,
+    PoolInternals, PutBackAnswer, Reason, TryAnswer, Unfit,
 };
 
 /// What a step that hands over comes to.
@@ -24,15 +27,17 @@ pub struct HandedOver<R, C> {
     pub tried: Option<TryAnswer<C>>,
 }
 
-/// Lets the get try that was notified, if one was. It stands once, as the steps round it stand in their places.
+/// Lets the get try that was notified, if one was. It stands once, as the steps round it stand in
+/// their places.
 #[inline(never)]
-fn try_of<C: Drop>(
-    pool: &mut PoolInternals<C>,
+fn try_of<C: Drop, A>(
+    pool: &mut PoolInternals<C, A>,
     at: Moment,
     notified: Option<GetKey>,
 ) -> Option<TryAnswer<C>>
     requires { IfSome notified (λ g. IsFitting pool.old (acts.Try g.number)) }
-    ensures { Follows pool.old at.0 notified result pool.new }
+    ensures follows { Follows pool.old at.0 notified result pool.new }
+    ensures few { TriesFew result pool.old pool.new }
 {
     pool.limits();
     match notified {
@@ -66,17 +71,20 @@ macro_rules! hand_over {
 
 /// Tells that the check of a get failed, and hands over.
 #[inline(always)]
-pub fn checked_err<C: Drop>(
-    pool: &mut PoolInternals<C>,
+pub fn checked_err<C: Drop, A>(
+    pool: &mut PoolInternals<C, A>,
     at: Moment,
     get: GetKey,
     conn: C,
     broken: bool,
     hint: usize,
 ) -> HandedOver<Result<CheckedErrAnswer<C>, C>, C>
-    ensures step { Stepped (HandsOver result.tried) answer_of_checked_err pool.old at.0
+    ensures step { Stepped (StepsAndTries result.tried) answer_of_checked_err pool.old at.0
         (acts.CheckedErr get.number broken) result.told pool.new }
     ensures connection { OrComesBack GivesBackInvalid conn result.told }
+    ensures order { StaysPrompt result.tried pool.old at.0
+        (acts.CheckedErr get.number broken) (answered answer_of_checked_err result.told) }
+    ensures examined { IfOk result.told (λ told. LooksFew 3 result.tried pool.old pool.new) }
     ensures limits { IsWithinLimits pool.old }
 {
     hand_over!(pool, at, pool.checked_err(at, get, conn, broken, hint))
@@ -84,16 +92,19 @@ pub fn checked_err<C: Drop>(
 
 /// Gives up a get that holds nothing, and hands over.
 #[inline(always)]
-pub fn give_up<C: Drop>(
-    pool: &mut PoolInternals<C>,
+pub fn give_up<C: Drop, A>(
+    pool: &mut PoolInternals<C, A>,
     at: Moment,
     get: GetKey,
     reason: Reason,
     broken: bool,
 ) -> HandedOver<Result<GiveUpAnswer<C>, Unfit>, C>
-    ensures step { Stepped (HandsOver result.tried) answer_of_give_up pool.old at.0
+    ensures step { Stepped (StepsAndTries result.tried) answer_of_give_up pool.old at.0
         (acts.GiveUp get.number (reason_of reason) None broken) result.told pool.new }
     ensures connection { IfOk result.told (GivesBackHeld None) }
+    ensures order { StaysPrompt result.tried pool.old at.0
+        (acts.GiveUp get.number (reason_of reason) None broken) (answered answer_of_give_up result.told) }
+    ensures examined { IfOk result.told (λ told. LooksFew 1 result.tried pool.old pool.new) }
     ensures limits { IsWithinLimits pool.old }
 {
     hand_over!(pool, at, pool.give_up(at, get, reason, broken))
@@ -101,8 +112,8 @@ pub fn give_up<C: Drop>(
 
 /// Gives up a get that holds this connection, and hands over.
 #[inline(always)]
-pub fn give_back<C: Drop>(
-    pool: &mut PoolInternals<C>,
+pub fn give_back<C: Drop, A>(
+    pool: &mut PoolInternals<C, A>,
     at: Moment,
     get: GetKey,
     reason: Reason,
@@ -110,9 +121,12 @@ pub fn give_back<C: Drop>(
     broken: bool,
     hint: usize,
 ) -> HandedOver<Result<GiveUpAnswer<C>, C>, C>
-    ensures step { Stepped (HandsOver result.tried) answer_of_give_up pool.old at.0
+    ensures step { Stepped (StepsAndTries result.tried) answer_of_give_up pool.old at.0
         (acts.GiveUp get.number (reason_of reason) (Some conn) broken) result.told pool.new }
     ensures connection { OrComesBack (λ c. GivesBackHeld (Some c)) conn result.told }
+    ensures order { StaysPrompt result.tried pool.old at.0
+        (acts.GiveUp get.number (reason_of reason) (Some conn) broken) (answered answer_of_give_up result.told) }
+    ensures examined { IfOk result.told (λ told. LooksFew 3 result.tried pool.old pool.new) }
     ensures limits { IsWithinLimits pool.old }
 {
     hand_over!(
@@ -124,32 +138,55 @@ pub fn give_back<C: Drop>(
 
 /// Gives back a connection that a guard holds, and hands over.
 #[inline(always)]
-pub fn put_back<C: Drop>(
-    pool: &mut PoolInternals<C>,
+pub fn put_back<C: Drop, A>(
+    pool: &mut PoolInternals<C, A>,
     at: Moment,
     key: Key,
     conn: C,
     broken: bool,
 ) -> HandedOver<Result<PutBackAnswer<C>, C>, C>
-    ensures step { Stepped (HandsOver result.tried) (answer_of_put_back key.number) pool.old at.0
+    ensures step { Stepped (StepsAndTries result.tried) (answer_of_put_back key.number) pool.old at.0
         (acts.PutBack key.number conn broken) result.told pool.new }
     ensures connection { OrComesBack GivesBack conn result.told }
+    ensures order { StaysPrompt result.tried pool.old at.0
+        (acts.PutBack key.number conn broken) (answered (answer_of_put_back key.number) result.told) }
+    ensures examined { IfOk result.told (λ told. LooksFew 2 result.tried pool.old pool.new) }
     ensures limits { IsWithinLimits pool.old }
 {
     hand_over!(pool, at, pool.put_back(at, key, conn, broken))
 }
 
+/// Lets the connection that a guard holds go for good, and hands over.
+#[inline(always)]
+pub fn detach<C: Drop, A>(
+    pool: &mut PoolInternals<C, A>,
+    at: Moment,
+    key: Key,
+) -> HandedOver<Result<DetachAnswer, Unfit>, C>
+    ensures step { Stepped (StepsAndTries result.tried) (answer_of_detach key.number) pool.old at.0
+        (acts.Detach key.number) result.told pool.new }
+    ensures order { StaysPrompt result.tried pool.old at.0
+        (acts.Detach key.number) (answered (answer_of_detach key.number) result.told) }
+    ensures examined { IfOk result.told (λ told. LooksFew 2 result.tried pool.old pool.new) }
+    ensures limits { IsWithinLimits pool.old }
+{
+    hand_over!(pool, at, pool.detach(at, key))
+}
+
 /// Hands in what a claimed approval brought, and hands over.
 #[inline(always)]
-pub fn opened<C: Drop>(
-    pool: &mut PoolInternals<C>,
+pub fn opened<C: Drop, A>(
+    pool: &mut PoolInternals<C, A>,
     at: Moment,
     key: Key,
     conn: C,
 ) -> HandedOver<Result<OpenedAnswer<C>, C>, C>
-    ensures step { Stepped (HandsOver result.tried) (answer_of_opened key.number) pool.old at.0
+    ensures step { Stepped (StepsAndTries result.tried) (answer_of_opened key.number) pool.old at.0
         (acts.Opened key.number conn) result.told pool.new }
     ensures connection { OrComesBack HandsBack conn result.told }
+    ensures order { StaysPrompt result.tried pool.old at.0
+        (acts.Opened key.number conn) (answered (answer_of_opened key.number) result.told) }
+    ensures examined { IfOk result.told (λ told. LooksFew 1 result.tried pool.old pool.new) }
     ensures limits { IsWithinLimits pool.old }
 {
     hand_over!(pool, at, pool.opened(at, key, conn))
@@ -157,15 +194,18 @@ pub fn opened<C: Drop>(
 
 /// Adds a connection, and hands over.
 #[inline(always)]
-pub fn add<C: Drop>(
-    pool: &mut PoolInternals<C>,
+pub fn add<C: Drop, A>(
+    pool: &mut PoolInternals<C, A>,
     at: Moment,
     conn: C,
     broken: bool,
 ) -> HandedOver<Result<AddAnswer<C>, C>, C>
-    ensures step { Stepped (HandsOver result.tried) answer_of_add pool.old at.0
+    ensures step { Stepped (StepsAndTries result.tried) answer_of_add pool.old at.0
         (acts.Add conn broken) result.told pool.new }
     ensures connection { OrComesBack Refuses conn result.told }
+    ensures order { StaysPrompt result.tried pool.old at.0
+        (acts.Add conn broken) (answered answer_of_add result.told) }
+    ensures examined { IfOk result.told (λ told. LooksFew 0 result.tried pool.old pool.new) }
     ensures limits { IsWithinLimits pool.old }
 {
     hand_over!(pool, at, pool.add(at, conn, broken))

@@ -12,16 +12,16 @@ ghost use Rattle.bb8_core.specs.declared.replay.events.Act.TheVariants as events
 ghost use Rattle.bb8_types.specs.Settings.{settings_of, is_lawful};
 ghost use Rattle.bb8_core.specs.StateView.{Represents, Meets};
 ghost use Rattle.bb8_core.specs.Unfit.{answered};
-ghost use Rattle.bb8_core.specs.StepAnswers.{answer_of_give_up};
+ghost use Rattle.bb8_core.specs.StepAnswers.{answer_of_checked_ok, answer_of_checked_err, answer_of_give_up, answer_of_detach, answer_of_failed, answer_of_reap};
 
 mod events;
 mod hints;
 
 use self::hints::Hints;
 use crate::answers::{
-    AddAnswer, BeginAnswer, CheckedErrAnswer, CheckedOkAnswer, ClaimAnswer, FailedAnswer,
-    GiveUpAnswer, JoinAnswer, LeaveAnswer, OpenedAnswer, PutBackAnswer, ReapAnswer, TryAnswer,
-    Unfit,
+    AddAnswer, BeginAnswer, CheckedErrAnswer, CheckedOkAnswer, ClaimAnswer, DetachAnswer,
+    FailedAnswer, GiveUpAnswer, JoinAnswer, LeaveAnswer, OpenedAnswer, PutBackAnswer, ReapAnswer,
+    TryAnswer, Unfit,
 };
 use crate::internals::PoolInternals;
 use bb8_tables::keys::{GetKey, Key};
@@ -41,7 +41,8 @@ fn number_of(notified: Option<GetKey>) -> Option<u64>
     }
 }
 
-/// Where the records and the gets of a replay stood last. It spares searches, and changes no answer.
+/// Where the records and the gets of a replay stood last. It spares searches, and changes no
+/// answer.
 #[derive(Drop)]
 pub struct Known {
     records: Hints,
@@ -49,8 +50,8 @@ pub struct Known {
 }
 
 impl Known {
-    /// Nothing is known yet, of a pool whose connections and approvals have numbers from `first_number` on, and its gets from `first_get`
-    /// on. It takes no memory.
+    /// Nothing is known yet, of a pool whose connections and approvals have numbers from
+    /// `first_number` on, and its gets from `first_get` on. It takes no memory.
     pub fn new(alloc: Global, first_number: u64, first_get: u64) -> Self {
         Known {
             records: Hints::new(alloc, first_number),
@@ -63,11 +64,16 @@ impl Known {
         match act {
             Act::Try(get) | Act::CheckedOk(get) => self.gets.place(get),
             Act::CheckedErr(get, _) | Act::GiveUp(get, _, _) => self.gets.place(get),
-            Act::PutBack(number, _) | Act::Opened(number) | Act::Failed(number) => {
-                self.records.place(number)
-            }
-            Act::Begin | Act::Fill(_) | Act::Claim | Act::Add(_) => 0,
-            Act::Reap | Act::State | Act::Join | Act::Leave | Act::Look => 0,
+            Act::PutBack(number, _) | Act::Detach(number) => self.records.place(number),
+            Act::Opened(number) | Act::Failed(number) => self.records.place(number),
+            Act::Begin | Act::Fill(_) | Act::Ask | Act::Claim | Act::Add(_) => 0,
+            Act::Reap
+            | Act::Retire
+            | Act::State
+            | Act::Join
+            | Act::Leave
+            | Act::Close
+            | Act::Look => 0,
         }
     }
 
@@ -102,11 +108,13 @@ fn fits_act<C: Drop>(pool: &PoolInternals<C>, act: Act) -> bool
             pool.fits_checked_ok(GetKey { number, place })
         }
         Act::GiveUp(number, _, _) => pool.is_alive(GetKey { number, place }),
-        Act::PutBack(number, _) => pool.is_guarded(Key { number, place }),
+        Act::PutBack(number, _) | Act::Detach(number) => pool.is_guarded(Key { number, place }),
         Act::Opened(number) | Act::Failed(number) => pool.is_claimed(Key { number, place }),
         Act::Join => pool.fits_join(),
         Act::Leave => pool.fits_leave(),
-        Act::Fill(_) | Act::Claim | Act::Reap | Act::State | Act::Look => true,
+        Act::Close => pool.fits_close(),
+        Act::Fill(_) | Act::Ask | Act::Claim | Act::Reap | Act::Retire | Act::State | Act::Look =>
+            true,
     }
 }
 
@@ -145,13 +153,16 @@ fn checked_ok(pool: &mut PoolInternals<u64>, known: &Known, at: Moment, get: Get
     ensures { Meets pool.old at.0 (acts.CheckedOk get.number) (answer_of result) pool.new }
 {
     let hint = known.hint(pool.held(get));
-    let grant = Grant {
-        first: pool.next_number(),
-        count: 0,
-        withheld: 0,
-    };
-    match pool.checked_ok(at, get, hint) {
-        Ok(CheckedOkAnswer::Served(key)) => Answer::Served(key.number, grant),
+    let next = pool.next_number();
+    told_of_checked_ok(pool.checked_ok(at, get, hint), next)
+}
+
+/// What a check that passed answers, where this number is next.
+fn told_of_checked_ok(answer: Result<CheckedOkAnswer, Unfit>, next: u64) -> Answer
+    ensures { answer_of result ≡ answered (answer_of_checked_ok next) answer }
+{
+    match answer {
+        Ok(CheckedOkAnswer::Served(key)) => Answer::Served(key.number, Grant::of_nothing(next)),
         Err(Unfit) => Answer::Unfit,
     }
 }
@@ -166,7 +177,14 @@ fn checked_err(
     ensures { Meets pool.old at.0 (acts.CheckedErr get.number broken) (answer_of result) pool.new }
 {
     let held = pool.held(get);
-    match pool.checked_err(at, get, held.unwrap_or(0), broken, known.hint(held)) {
+    told_of_checked_err(pool.checked_err(at, get, held.unwrap_or(0), broken, known.hint(held)))
+}
+
+/// What a check that failed answers.
+fn told_of_checked_err(answer: Result<CheckedErrAnswer<u64>, u64>) -> Answer
+    ensures { answer_of result ≡ answered answer_of_checked_err answer }
+{
+    match answer {
         Ok(CheckedErrAnswer::Closed(key, _, grant, notified)) => {
             Answer::Closed(key.number, grant, number_of(notified))
         }
@@ -174,7 +192,8 @@ fn checked_err(
     }
 }
 
-fn gave_up<U: Drop>(answer: Result<GiveUpAnswer<u64>, U>) -> Answer
+/// What a give-up answers.
+fn told_of_give_up<U: Drop>(answer: Result<GiveUpAnswer<u64>, U>) -> Answer
     ensures { answer_of result ≡ answered answer_of_give_up answer }
 {
     match answer {
@@ -199,10 +218,10 @@ fn give_up(
     ensures { Happens pool.old at.0 (events.GiveUp get.number reason broken) result pool.new }
 {
     match pool.held(get) {
-        None => gave_up(pool.give_up(at, get, reason, broken)),
+        None => told_of_give_up(pool.give_up(at, get, reason, broken)),
         Some(held) => {
             let hint = known.records.place(held);
-            gave_up(pool.give_back(at, get, reason, held, broken, hint))
+            told_of_give_up(pool.give_back(at, get, reason, held, broken, hint))
         }
     }
 }
@@ -217,6 +236,24 @@ fn put_back(pool: &mut PoolInternals<u64>, at: Moment, key: Key, broken: bool) -
             Answer::Closed(key.number, grant, number_of(notified))
         }
         Err(_) => Answer::Unfit,
+    }
+}
+
+fn detach(pool: &mut PoolInternals<u64>, at: Moment, key: Key) -> Answer
+    ensures { Meets pool.old at.0 (acts.Detach key.number) (answer_of result) pool.new }
+{
+    told_of_detach(pool.detach(at, key), key.number)
+}
+
+/// What a leaving of the connection of this number answers.
+fn told_of_detach(answer: Result<DetachAnswer, Unfit>, number: u64) -> Answer
+    ensures { answer_of result ≡ answered (answer_of_detach number) answer }
+{
+    match answer {
+        Ok(DetachAnswer::Detached(grant, notified)) => {
+            Answer::Closed(number, grant, number_of(notified))
+        }
+        Err(Unfit) => Answer::Unfit,
     }
 }
 
@@ -246,7 +283,14 @@ fn opened(pool: &mut PoolInternals<u64>, at: Moment, key: Key) -> Answer
 fn failed(pool: &mut PoolInternals<u64>, at: Moment, key: Key) -> Answer
     ensures { Meets pool.old at.0 (acts.Failed key.number) (answer_of result) pool.new }
 {
-    match pool.failed(at, key) {
+    told_of_failed(pool.failed(at, key))
+}
+
+/// What a failed opening answers.
+fn told_of_failed(answer: Result<FailedAnswer, Unfit>) -> Answer
+    ensures { answer_of result ≡ answered answer_of_failed answer }
+{
+    match answer {
         Ok(FailedAnswer::GivenBack) => Answer::GivenBack,
         Err(Unfit) => Answer::Unfit,
     }
@@ -272,7 +316,20 @@ fn add(pool: &mut PoolInternals<u64>, known: &mut Known, at: Moment, broken: boo
 fn reap(pool: &mut PoolInternals<u64>, at: Moment) -> Answer
     ensures { Meets pool.old at.0 acts.Reap (answer_of result) pool.new }
 {
-    match pool.reap(at) {
+    told_of_reap(pool.reap(at))
+}
+
+fn retire(pool: &mut PoolInternals<u64>, at: Moment) -> Answer
+    ensures { Meets pool.old at.0 acts.Retire (answer_of result) pool.new }
+{
+    told_of_reap(pool.retire(at))
+}
+
+/// What a reap or a retire answers.
+fn told_of_reap(answer: ReapAnswer) -> Answer
+    ensures { answer_of result ≡ answer_of_reap answer }
+{
+    match answer {
         ReapAnswer::Reaped {
             closed,
             by_idle,
@@ -307,6 +364,15 @@ fn leave(pool: &mut PoolInternals<u64>, at: Moment) -> Answer
     }
 }
 
+fn close(pool: &mut PoolInternals<u64>, at: Moment) -> Answer
+    ensures { Meets pool.old at.0 acts.Close (answer_of result) pool.new }
+{
+    match pool.close(at) {
+        Ok(LeaveAnswer::Left(closed)) => Answer::Left(closed),
+        Err(Unfit) => Answer::Unfit,
+    }
+}
+
 fn look(pool: &mut PoolInternals<u64>, at: Moment) -> Answer
     ensures { Meets pool.old at.0 acts.Look (answer_of result) pool.new }
 {
@@ -314,8 +380,8 @@ fn look(pool: &mut PoolInternals<u64>, at: Moment) -> Answer
     Answer::Looked(seen.moment, seen.alive)
 }
 
-/// What an event is answered: `Unfit` where it does not fit, and then nothing changes. The connection of a record is its number; that of
-/// an `Add` is the next number.
+/// What an event is answered: `Unfit` where it does not fit, and then nothing changes. The
+/// connection of a record is its number; that of an `Add` is the next number.
 pub fn apply(pool: &mut PoolInternals<u64>, known: &mut Known, event: Event) -> Answer
     ensures { Applies pool.old event result pool.new }
 {
@@ -338,22 +404,26 @@ pub fn apply(pool: &mut PoolInternals<u64>, known: &mut Known, event: Event) -> 
             )
         }
         Act::PutBack(number, broken) => put_back(pool, event.at, Key { number, place }, broken),
+        Act::Detach(number) => detach(pool, event.at, Key { number, place }),
         Act::Fill(claimed) => Answer::Granted(pool.fill(event.at, claimed)),
+        Act::Ask => Answer::Granted(pool.ask(event.at)),
         Act::Claim => claim(pool, known, event.at),
         Act::Opened(number) => opened(pool, event.at, Key { number, place }),
         Act::Failed(number) => failed(pool, event.at, Key { number, place }),
         Act::Add(broken) => add(pool, known, event.at, broken),
         Act::Reap => reap(pool, event.at),
+        Act::Retire => retire(pool, event.at),
         Act::State => Answer::Shown(pool.state(event.at)),
         Act::Join => join(pool, event.at),
         Act::Leave => leave(pool, event.at),
+        Act::Close => close(pool, event.at),
         Act::Look => look(pool, event.at),
     }
 }
 
-/// What the events are answered, one answer each, from the empty state on, and the state that they leave. An event that does not fit
-/// answers `Unfit` and changes nothing. `Memory` comes only where the list of answers could not grow: want of memory inside a step is
-/// that step's answer.
+/// What the events are answered, one answer each, from the empty state on, and the state that they
+/// leave. An event that does not fit answers `Unfit` and changes nothing. `Memory` comes only where
+/// the list of answers could not grow: want of memory inside a step is that step's answer.
 pub fn replay(
     alloc: Global,
     config: Config,

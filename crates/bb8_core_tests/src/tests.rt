@@ -43,7 +43,8 @@ fn unchecked(max_size: u32, min_idle: Option<u32>) -> Config {
     }
 }
 
-/// A pool of so many connections, of which so many gets were served at once and so many connections were opened.
+/// A pool of so many connections, of which so many gets were served at once and so many connections
+/// were opened.
 fn served(connections: u32, idle_connections: u32, gets: u64, created: u64) -> State {
     let statistics = Statistics {
         get_started: gets,
@@ -57,6 +58,8 @@ fn served(connections: u32, idle_connections: u32, gets: u64, created: u64) -> S
         connections_closed_invalid: 0,
         connections_closed_max_lifetime: 0,
         connections_closed_idle_timeout: 0,
+        connections_closed_retired: 0,
+        connections_detached: 0,
     };
     State {
         connections,

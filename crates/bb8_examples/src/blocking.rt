@@ -48,7 +48,8 @@ impl<R: Clock + Send + Sync + Drop + 'static> BlockingManager for Files<R> {
 
     type Error = Down;
 
-    /// Blocks the driver's thread: other openings and the reaper wait meanwhile, gets do not but for what they would be opened.
+    /// Blocks the driver's thread: other openings and the reaper wait meanwhile, gets do not but
+    /// for what they would be opened.
     fn connect(&self) -> Result<File, Down> {
         thread::sleep(&self.rt, Duration::from_millis(CALL_MILLIS));
         if self.is_down {
@@ -57,7 +58,8 @@ impl<R: Clock + Send + Sync + Drop + 'static> BlockingManager for Files<R> {
         Ok(File { reads: 0 })
     }
 
-    /// Asks nobody: a check that blocked would hold its get past the deadline. What broke is found at use, and told by `has_broken`.
+    /// Asks nobody: a check that blocked would hold its get past the deadline. What broke is found
+    /// at use, and told by `has_broken`.
     fn is_valid(&self, _file: &mut File) -> Result<(), Down> {
         Ok(())
     }

@@ -57,7 +57,8 @@ impl<R: Runtime> Service<Blocking<Files<R>>, NopErrorSink, NopCustomizer, Machin
     }
 }
 
-/// What becomes of the two gets of a pool of one connection. No thread runs beside: all is done as the service ends.
+/// What becomes of the two gets of a pool of one connection. No thread runs beside: all is done as
+/// the service ends.
 pub fn ends<R: Runtime + Threads>(rt: R) -> Result<(Ended, Ended), RunError<Down>> {
     Builder::new()
         .max_size(1)

@@ -1,5 +1,6 @@
-//! Examples, each a few lines that print: how the errors of a get are told apart, a pool whose settings are read at run time, a manager over
-//! a client that blocks, and a sink that prints. `tests` tests a manager.
+//! Examples, each a few lines that print: how the errors of a get are told apart, a pool whose
+//! settings are read at run time, a manager over a client that blocks, and a sink that prints.
+//! `tests` tests a manager.
 #![tactic(auto)]
 
 mod blocking;

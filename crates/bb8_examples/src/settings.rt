@@ -1,4 +1,5 @@
-//! A pool whose settings are read at run time: they are asked whether a pool can hold to them before it is built.
+//! A pool whose settings are read at run time: they are asked whether a pool can hold to them
+//! before it is built.
 use crate::blocking::{Down, FilePool, Files};
 use bb8::{
     Builder, Config, MachineClock, NopCustomizer, NopErrorSink, PoolCalls, PoolParts, RunError,

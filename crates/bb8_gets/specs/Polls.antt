@@ -1,5 +1,5 @@
--- The table of a get's polls, over the relations of any home and of any calls outside. As these are free, the table says which calls are
--- made, how many, and in which order.
+-- The table of a get's polls, over the relations of any home and of any calls outside. As these are
+-- free, the table says which calls are made, how many, and in which order.
 use Rattle.std.specs.Prelude.{◌≡◌, ℕ, ◌+◌, ◌-◌, ◌<◌, ◌≤◌, min, Bool, true, false, Option, Some, None, Result, Ok, Err}
 use Rattle.std.specs.Bool.{MatchBool}
 use Rattle.futures.specs.declared.task.Poll.{Poll}
@@ -50,7 +50,8 @@ holds_nothing (Waiting b) = false
 holds_nothing (Checking b held) = false
 holds_nothing Done = true
 
--- the deadline of a get that was first polled at a moment: none, where it is past the greatest moment
+-- the deadline of a get that was first polled at a moment: none, where it is past the greatest
+-- moment
 abbrev pub IsDeadline : Moment → ℕ → Option Moment → Type 0
 IsDeadline m timeout (Some deadline) = deadline.0 ≡ m.0 + timeout
 IsDeadline m timeout None = last_moment < m.0 + timeout
@@ -93,7 +94,8 @@ module _ {C E V P H X : Type 0} (home : HomeOf X C P H) (outside : OutsideOf X C
   AfterLeave (Ok a) x x' = AfterGiveUp a x x'
   AfterLeave (Err u) x x' = (x' ≡ x)
 
-  -- after the try to give up a get that holds a connection: one that the home does not take is dropped, too
+  -- after the try to give up a get that holds a connection: one that the home does not take is
+  -- dropped, too
   abbrev pub AfterBack : Result (GiveUpAnswer C) C → X → X → Type 0
   AfterBack (Ok a) x x' = AfterGiveUp a x x'
   AfterBack (Err c) x x' = DropsAfterStep c x x'
@@ -118,7 +120,8 @@ module _ {C E V P H X : Type 0} (home : HomeOf X C P H) (outside : OutsideOf X C
   AfterFail (Ok a) b x next x' = DropsAfterStep home outside (closed_in a) x x' × (next ≡ Stand (Trying b))
   AfterFail (Err c) b x next x' = DropsAfterStep home outside c x x' × (next ≡ Answer (Err errors.TimedOut))
 
-  -- a check that failed: the sink has the error, the connection is asked whether it is broken, and the home closes it
+  -- a check that failed: the sink has the error, the connection is asked whether it is broken, and
+  -- the home closes it
   abbrev pub CheckFails : Open → Taken C P → E → X → Next C V P E → X → Type 0
   CheckFails b t e x next x' =
       (x1 : X) × outside.sinks x e x1
@@ -130,7 +133,8 @@ module _ {C E V P H X : Type 0} (home : HomeOf X C P H) (outside : OutsideOf X C
   AfterPass (Ok p) c x next x' = MovesTo (Answer (Ok (record { key = p.key; connection = c; part = p.part }))) x next x'
   AfterPass (Err u) c x next x' = DropsAfterStep home outside c x x' × (next ≡ Answer (Err errors.TimedOut))
 
-  -- after a poll of a check, which left the connection and the check like this: a check that answered ends first
+  -- after a poll of a check, which left the connection and the check like this: a check that
+  -- answered ends first
   abbrev pub AfterCheck : Poll (Result (Unit {0}) E) → Open → CheckUnderWay C V P → X → Next C V P E → X → Type 0
   AfterCheck Pending b held x next x' = MovesTo (Stand (Checking b held)) x next x'
   AfterCheck (Ready (Ok u)) b held x next x' =
@@ -170,13 +174,19 @@ module _ {C E V P H X : Type 0} (home : HomeOf X C P H) (outside : OutsideOf X C
   abbrev pub GetStarts : ℕ → X → Next C V P E → X → Type 0
   GetStarts timeout x next x' = (r : Result (FirstTry C P) Unfit) × (x1 : X) × home.steps x m (step.Starts r) x1 × AfterStart r timeout x1 next x'
 
-  -- the rows of each state
-  abbrev pub GetAdvances : ℕ → Stage C V P → X → Next C V P E → X → Type 0
-  GetAdvances timeout Fresh x next x' = GetStarts timeout x next x'
-  GetAdvances timeout (Trying b) x next x' = Tries b x next x'
-  GetAdvances timeout (Waiting b) x next x' = Tries b x next x'
-  GetAdvances timeout (Checking b held) x next x' = (x1 : X) × home.releases x x1 × Checks b held x1 next x'
-  GetAdvances timeout Done x next x' = MovesTo (Stand Done) x next x'
+  -- A get that holds no connection tries while a handle is alive. In a pool that was closed it is
+  -- given up, whatever its deadline.
+  abbrev pub Retries : Bool → Open → X → Next C V P E → X → Type 0
+  Retries true b x next x' = Tries b x next x'
+  Retries false b x next x' = LeavesLine b.get TimedOut x x' × (next ≡ Answer (Err errors.TimedOut))
+
+  -- the rows of each state, where a handle is alive or none is
+  abbrev pub GetAdvances : Bool → ℕ → Stage C V P → X → Next C V P E → X → Type 0
+  GetAdvances alive timeout Fresh x next x' = GetStarts timeout x next x'
+  GetAdvances alive timeout (Trying b) x next x' = Retries alive b x next x'
+  GetAdvances alive timeout (Waiting b) x next x' = Retries alive b x next x'
+  GetAdvances alive timeout (Checking b held) x next x' = (x1 : X) × home.releases x x1 × Checks b held x1 next x'
+  GetAdvances alive timeout Done x next x' = MovesTo (Stand Done) x next x'
 
   -- a get gives up, as its deadline came: a connection that it holds is asked whether it is broken
   abbrev pub TimesOut : Stage C V P → X → X → Type 0
@@ -217,16 +227,17 @@ module _ {C E V P H X : Type 0} (home : HomeOf X C P H) (outside : OutsideOf X C
       (next : Next C V P E) × (x1 : X) × GetStarts timeout x next x1 × EndsPoll next x1 settled x'
 
 module _ {C E V P H X : Type 0} (home : HomeOf X C P H) (outside : OutsideOf X C E V) where
-  -- A poll of a get that was not answered: the clock is read, the home looked at, the get goes on, and it answers or its deadline is
-  -- compared.
+  -- A poll of a get that was not answered: the clock is read, the home looked at, the get goes on,
+  -- and it answers or its deadline is compared.
   abbrev pub Goes : ℕ → Stage C V P → X → Settled C V P E → X → Type 0
   Goes timeout stage x settled x' =
       (at : Moment) × (x1 : X) × outside.tells x at x1
       × ((seen : Looked) × (x2 : X) × home.steps x1 at (step.Looks seen) x2
-      × ((next : Next C V P E) × (x3 : X) × GetAdvances home outside seen.moment timeout stage x2 next x3
+      × ((next : Next C V P E) × (x3 : X) × GetAdvances home outside seen.moment seen.alive timeout stage x2 next x3
       × EndsPoll home outside seen.moment next x3 settled x'))
 
-  -- The whole poll: what it answers, and the stage, the home and the calls outside then. In Done no call is made.
+  -- The whole poll: what it answers, and the stage, the home and the calls outside then. In Done no
+  -- call is made.
   abbrev pub GetPolls : ℕ → Stage C V P → X → Settled C V P E → X → Type 0
   GetPolls timeout stage x settled x' =
       MatchBool (is_done stage) ((settled.answer ≡ Pending) × (settled.stage ≡ stage) × (x' ≡ x)) (Goes timeout stage x settled x')
@@ -242,8 +253,8 @@ module _ {C E V P H X : Type 0} (home : HomeOf X C P H) (outside : OutsideOf X C
       × ((r : Returned C P) × (x2 : X) × Asks outside held.taken x1 r x2
       × ((at : Moment) × (x3 : X) × outside.tells x2 at x3 × TakesBack home outside at g Cancelled r x3 x'))
 
-  -- A get that is let go: a connection that it holds is asked whether it is broken, the clock is read, and the get is given up as cancelled.
-  -- In Fresh and Done no call is made.
+  -- A get that is let go: a connection that it holds is asked whether it is broken, the clock is
+  -- read, and the get is given up as cancelled. In Fresh and Done no call is made.
   abbrev pub Cancels : Stage C V P → X → X → Type 0
   Cancels (Trying b) x x' = CancelsFree b.get x x'
   Cancels (Waiting b) x x' = CancelsFree b.get x x'

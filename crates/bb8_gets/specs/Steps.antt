@@ -1,9 +1,12 @@
--- The steps of gets, guards and handles on their home, each with what it was given and what it answered, and what each is in the words of the ledger.
-use Rattle.std.specs.Prelude.{◌≡◌, ◌≤◌, ℕ, Bool, true, false, Some, None, Result, Ok, Err, IfOk}
+-- The steps of gets, guards and handles on their home, each with what it was given and what it
+-- answered, and what each is in the words of the ledger.
+use Rattle.std.specs.Prelude.{◌≡◌, ◌≤◌, ℕ, Bool, true, false, Some, None, Result, Ok, Err, IfOk, IfErr}
+use Rattle.circular_buffer.specs.Buffer.{Buffer}
 use Rattle.bb8_types.specs.declared.api.figures.State.{State}
 use Rattle.bb8_types.specs.declared.api.moments.Moment.{Moment}
 use Rattle.bb8_types.specs.declared.reasons.Reason.{Reason}
 use Rattle.bb8_types.specs.Figures.{figures_of}
+use Rattle.bb8_tables.specs.declared.closed.Closed.{Closed}
 use Rattle.bb8_tables.specs.declared.keys.GetKey.{GetKey}
 use Rattle.bb8_tables.specs.declared.keys.Key.{Key}
 use Rattle.bb8_ledger.specs.Acts as acts
@@ -13,11 +16,16 @@ use Rattle.bb8_ledger.specs.Answers.{Answer}
 use Rattle.bb8_core.specs.declared.answers.AddAnswer.{AddAnswer}
 use Rattle.bb8_core.specs.declared.answers.AddAnswer.TheVariants as adding
 use Rattle.bb8_core.specs.declared.answers.CheckedErrAnswer.{CheckedErrAnswer}
+use Rattle.bb8_core.specs.declared.answers.DetachAnswer.{DetachAnswer}
 use Rattle.bb8_core.specs.declared.answers.GiveUpAnswer.{GiveUpAnswer}
 use Rattle.bb8_core.specs.declared.answers.LeaveAnswer.{LeaveAnswer}
 use Rattle.bb8_core.specs.declared.answers.Looked.{Looked}
 use Rattle.bb8_core.specs.declared.answers.PutBackAnswer.{PutBackAnswer}
-use Rattle.bb8_core.specs.StepAnswers.{answer_of_add, answer_of_checked_err, answer_of_give_up, answer_of_leave, answer_of_look, answer_of_put_back, reason_of, GivesBack as GivesBackReturned, GivesBackHeld, GivesBackInvalid, HandsOut, Refuses}
+use Rattle.bb8_core.specs.declared.answers.ReapAnswer.{ReapAnswer}
+use Rattle.bb8_core.specs.Closings.{OffersRetired, OffersShut}
+use Rattle.bb8_tables.specs.declared.closed.Closed.{Closed}
+use Rattle.circular_buffer.specs.Buffer.{Buffer}
+use Rattle.bb8_core.specs.StepAnswers.{answer_of_add, answer_of_checked_err, answer_of_give_up, answer_of_leave, answer_of_look, answer_of_put_back, answer_of_reap, reason_of, GivesBack as GivesBackReturned, GivesBackHeld, GivesBackInvalid, HandsOut, Refuses, answer_of_detach}
 use Rattle.bb8_core.specs.Unfit.{OrComesBack, Stepped}
 use Rattle.bb8_core.specs.StateView.{StateView}
 use Rattle.bb8_types.specs.Settings.{Settings}
@@ -46,6 +54,9 @@ pub data GetStep (C P H : Type 0) : Type 0 where
   Shows : State → GetStep C P H
   Joins : Joining H → GetStep C P H
   Leaves : Result LeaveAnswer Unfit → GetStep C P H
+  Retires : Buffer (Closed C) → ReapAnswer → Buffer (Closed C) → GetStep C P H
+  Detaches : Key → P → Result DetachAnswer Unfit → GetStep C P H
+  Closes : Buffer (Closed C) → Buffer (Closed C) → Result LeaveAnswer Unfit → GetStep C P H
 
 -- the answer to the making of a handle
 abbrev pub joining_told : {H : Type 0} → Joining H → Answer
@@ -69,8 +80,8 @@ module _ {C P : Type 0} (Makes : StateView C → ℕ → Act C → Answer → St
   StartsBy s at (Err u) s' = Makes s at acts.Begin answers.Unfit s' × (s' ≡ s)
 
 module _ {C P H : Type 0} (settings : Settings) where
-  -- a step under the lock of a pool with these settings: the event and its answer, and which connection goes out or comes back; a step that does
-  -- not fit changes nothing
+  -- a step under the lock of a pool with these settings: the event and its answer, and which
+  -- connection goes out or comes back; a step that does not fit changes nothing
   abbrev pub StepsBy : StateView C → Moment → GetStep C P H → StateView C → Type 0
   StepsBy s at (Looks seen) s' = StepsIn settings s at.0 acts.Look (answer_of_look seen) s'
   StepsBy s at (Starts r) s' = StartsBy (StepsIn settings) s at.0 r s'
@@ -92,3 +103,7 @@ module _ {C P H : Type 0} (settings : Settings) where
       × (state.connections ≤ settings.max_size) × (state.idle_connections ≤ state.connections)
   StepsBy s at (Joins a) s' = StepsIn settings s at.0 acts.Join (joining_told a) s'
   StepsBy s at (Leaves a) s' = Stepped (StepsIn settings) answer_of_leave s at.0 acts.Leave a s'
+  StepsBy s at (Retires list a offered) s' = StepsIn settings s at.0 acts.Retire (answer_of_reap a) s' × OffersRetired s at.0 a list offered
+  StepsBy s at (Detaches key part a) s' = Stepped (StepsIn settings) (answer_of_detach key.number) s at.0 (acts.Detach key.number) a s'
+  StepsBy s at (Closes list closed a) s' =
+      Stepped (StepsIn settings) answer_of_leave s at.0 acts.Close a s' × IfOk a (λ _. OffersShut s list closed) × IfErr a (λ _. closed ≡ list)

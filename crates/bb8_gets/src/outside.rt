@@ -6,11 +6,12 @@ ghost use Rattle.bb8_types.specs.declared.api.moments.Moment.{Moment as MomentOf
 use bb8_core::api::Moment;
 use futures::task::Poll;
 
-/// The calls that gets and guards of connections `C` make of a pool's clock, its manager, whose errors are `E`, and its error sink, and where
-/// connections are let go.
+/// The calls that gets and guards of connections `C` make of a pool's clock, its manager, whose
+/// errors are `E`, and its error sink, and where connections are let go.
 ///
-/// Each call changes the value that it is made of, by a relation that says nothing else and has no default. So a chain of these relations
-/// is the list of all calls, in their order: one that is made twice, left out or made at another place does not fit it.
+/// Each call changes the value that it is made of, by a relation that says nothing else and has no
+/// default. So a chain of these relations is the list of all calls, in their order: one that is
+/// made twice, left out or made at another place does not fit it.
 pub trait Outside<C, E> {
     /// A check that is being made.
     type Checking;
@@ -18,16 +19,19 @@ pub trait Outside<C, E> {
     // Holds before a reading of the clock, of the moment that it tells, and after it.
     ghost tells: { Self → MomentOf → Self → Type 0 };
 
-    // Holds before the begin of a check of a connection, of the check, of the connection then, and after it.
+    // Holds before the begin of a check of a connection, of the check, of the connection then, and
+    // after it.
     ghost checks: { Self → C → Self.Checking → C → Self → Type 0 };
 
-    // Holds before a poll of a check at a moment, of its answer, of the connection and the check then, and after it.
+    // Holds before a poll of a check at a moment, of its answer, of the connection and the check
+    // then, and after it.
     ghost check_answers: { Self → C → Self.Checking → MomentOf → PollOf (Result (Unit {0}) E) → C → Self.Checking → Self → Type 0 };
 
     // Holds before a check is ended, and after it.
     ghost ends_check: { Self → Self.Checking → Self → Type 0 };
 
-    // Holds before a connection is asked whether it is broken, of the answer, of the connection then, and after it.
+    // Holds before a connection is asked whether it is broken, of the answer, of the connection
+    // then, and after it.
     ghost breaks: { Self → C → Bool → C → Self → Type 0 };
 
     // Holds before an error is handed to the sink, and after it.

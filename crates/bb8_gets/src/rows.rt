@@ -1,19 +1,21 @@
-//! The rows of the table by which a get is polled: what is called outside and which steps are made, in their order.
+//! The rows of the table by which a get is polled: what is called outside and which steps are made,
+//! in their order.
 //!
 //! The home is released between a step and what is then called outside.
 ghost use Rattle.std.specs.Prelude.{◌≡◌};
 ghost use Rattle.std.specs.Duration.{as_nanos};
-ghost use Rattle.bb8_gets.specs.Polls.{IsDeadline, closed_in, AfterGiveUp, Asks, CheckFails, Checks, AfterTry, Tries, AfterStart, GetStarts, GetAdvances, DropsAfterStep, LeavesLine, TakesBack, TimesOut, Settles, EndsPoll, Starts, Goes};
+ghost use Rattle.bb8_gets.specs.Polls.{IsDeadline, closed_in, AfterGiveUp, Asks, CheckFails, Checks, AfterTry, Tries, AfterStart, GetStarts, GetAdvances, DropsAfterStep, LeavesLine, Retries, TakesBack, TimesOut, Settles, EndsPoll, Starts, Goes};
 
 use super::home::{FirstTry, GetHome, Passed, Returned, Taken, Tried};
 use super::outside::Outside;
 use super::state::{Begun, CheckUnderWay, Next, Settled, Stage};
 use bb8_core::api::{Moment, RunError};
-use bb8_core::internals::{CheckedErrAnswer, GetKey, GiveUpAnswer, Reason, Unfit};
+use bb8_core::internals::{CheckedErrAnswer, GetKey, GiveUpAnswer, Looked, Reason, Unfit};
 use futures::task::Poll;
 use std::time::Duration;
 
-/// The moment at which a get gives up that was first polled at `moment`. None, and so never, where that is past the greatest moment.
+/// The moment at which a get gives up that was first polled at `moment`. None, and so never, where
+/// that is past the greatest moment.
 fn deadline(moment: Moment, timeout: Duration) -> Option<Moment>
     ensures { IsDeadline moment (as_nanos timeout) result }
 {
@@ -189,6 +191,23 @@ fn take<C, V, P, E, X: GetHome<C, Part = P> + Outside<C, E, Checking = V>>(
     tried(pool, moment, begun, answer)
 }
 
+/// What a get that holds no connection does at a later poll: it tries, or is given up if no handle
+/// is alive.
+#[inline(always)]
+fn retry<C, V, P, E, X: GetHome<C, Part = P> + Outside<C, E, Checking = V>>(
+    pool: &mut X,
+    seen: Looked,
+    begun: Begun,
+) -> Next<C, V, P, E>
+    ensures { Retries X.GetHome X.Outside seen.moment seen.alive begun pool.old result pool.new }
+{
+    if seen.alive {
+        return take(pool, seen.moment, begun);
+    }
+    leave(pool, seen.moment, begun.get, Reason::TimedOut);
+    Next::Answer(Err(RunError::TimedOut))
+}
+
 /// What follows the begin of a get and its first try.
 #[inline(always)]
 pub(crate) fn follow<C, V, P, E, X: GetHome<C, Part = P> + Outside<C, E, Checking = V>>(
@@ -228,19 +247,19 @@ fn start<C, V, P, E, X: GetHome<C, Part = P> + Outside<C, E, Checking = V>>(
 /// What a get does at a poll before its deadline is compared.
 fn advance<C, V, P, E, X: GetHome<C, Part = P> + Outside<C, E, Checking = V>>(
     pool: &mut X,
-    moment: Moment,
+    seen: Looked,
     timeout: Duration,
     stage: Stage<C, V, P>,
 ) -> Next<C, V, P, E>
-    ensures { GetAdvances X.GetHome X.Outside moment (as_nanos timeout) stage pool.old result
-        pool.new }
+    ensures { GetAdvances X.GetHome X.Outside seen.moment seen.alive (as_nanos timeout) stage
+        pool.old result pool.new }
 {
     match stage {
-        Stage::Fresh => start(pool, moment, timeout),
-        Stage::Trying(begun) | Stage::Waiting(begun) => take(pool, moment, begun),
+        Stage::Fresh => start(pool, seen.moment, timeout),
+        Stage::Trying(begun) | Stage::Waiting(begun) => retry(pool, seen, begun),
         Stage::Checking(begun, held) => {
             pool.release();
-            check(pool, moment, begun, held)
+            check(pool, seen.moment, begun, held)
         }
         Stage::Done => Next::Stand(Stage::Done),
     }
@@ -371,7 +390,8 @@ pub(crate) fn begin<C, V, P, E, X: GetHome<C, Part = P> + Outside<C, E, Checking
     end(pool, moment, next)
 }
 
-/// One poll of a get that was not answered: the clock is read, the home looked at, and the get goes on.
+/// One poll of a get that was not answered: the clock is read, the home looked at, and the get goes
+/// on.
 pub(crate) fn go<C, V, P, E, X: GetHome<C, Part = P> + Outside<C, E, Checking = V>>(
     pool: &mut X,
     timeout: Duration,
@@ -380,7 +400,7 @@ pub(crate) fn go<C, V, P, E, X: GetHome<C, Part = P> + Outside<C, E, Checking = 
     ensures { Goes X.GetHome X.Outside (as_nanos timeout) stage pool.old result pool.new }
 {
     let at = pool.now();
-    let moment = pool.look(at).moment;
-    let next = advance(pool, moment, timeout, stage);
-    end(pool, moment, next)
+    let seen = pool.look(at);
+    let next = advance(pool, seen, timeout, stage);
+    end(pool, seen.moment, next)
 }

@@ -36,7 +36,8 @@ pub struct CheckUnderWay<C, V, P> {
     pub checking: V,
 }
 
-/// Where a get stands between its polls. One that holds a connection cannot be let go but by a step of its home.
+/// Where a get stands between its polls. One that holds a connection cannot be let go but by a step
+/// of its home.
 pub enum Stage<C, V, P> {
     /// It was not polled yet.
     Fresh,
@@ -62,7 +63,8 @@ impl<C, V, P> Stage<C, V, P> {
     }
 }
 
-/// What a poll does after its steps: it answers, or the get stands somewhere and its deadline is compared.
+/// What a poll does after its steps: it answers, or the get stands somewhere and its deadline is
+/// compared.
 pub enum Next<C, V, P, E> {
     /// It answers this.
     Answer(Result<Taken<C, P>, RunError<E>>),
@@ -78,9 +80,11 @@ pub struct Settled<C, V, P, E> {
     pub stage: Stage<C, V, P>,
 }
 
-/// A get of a connection `C`, whose check is a `V`, and which comes with a `P`: what a future of a get holds beside its pool.
+/// A get of a connection `C`, whose check is a `V`, and which comes with a `P`: what a future of a
+/// get holds beside its pool.
 ///
-/// It does nothing until it is polled. It cannot be dropped but by `cancel_step`, as what it holds goes back to its home.
+/// It does nothing until it is polled. It cannot be dropped but by `cancel_step`, as what it holds
+/// goes back to its home.
 pub struct GetState<C, V, P> {
     stage: Stage<C, V, P>,
 }
@@ -106,14 +110,18 @@ impl<C, V, P> GetState<C, V, P> {
         }
     }
 
-    /// One poll of the get over a home; `timeout` is the pool's `connection_timeout`. Upstream's get is an async function.
+    /// One poll of the get over a home; `timeout` is the pool's `connection_timeout`. Upstream's
+    /// get is an async function.
     ///
-    /// It reads the clock once and looks at the home. The first poll begins the get and sets its deadline. Each poll tries once at most, or
-    /// polls the check of the connection that it holds, and compares the deadline last. A check that failed hands its error to the sink
-    /// and closes the connection, and the get tries again at the next poll. The home is released before each other call outside.
+    /// It reads the clock once and looks at the home. The first poll begins the get and sets its
+    /// deadline. Each poll tries once at most, or polls the check of the connection that it holds,
+    /// and compares the deadline last. A check that failed hands its error to the sink and closes
+    /// the connection, and the get tries again at the next poll. If no handle is alive any more, it
+    /// is given up then. The home is released before each other call outside.
     ///
-    /// It answers a connection; `TimedOut` once the deadline has come, or where the home knows no such get or no handle; `Memory` or
-    /// `Exhausted` where the get could not begin. After an answer each poll is pending, and calls nothing.
+    /// It answers a connection; `TimedOut` once the deadline has come, or where the home knows no
+    /// such get or no handle; `Memory` or `Exhausted` where the get could not begin. After an
+    /// answer each poll is pending, and calls nothing.
     pub fn poll_step<E, X: GetHome<C, Part = P> + Outside<C, E, Checking = V>>(
         &mut self,
         pool: &mut X,
@@ -131,7 +139,8 @@ impl<C, V, P> GetState<C, V, P> {
         answer
     }
 
-    /// As `poll_step`, with a home of its own, which is let go then. A get that is served at once keeps none of it in memory.
+    /// As `poll_step`, with a home of its own, which is let go then. A get that is served at once
+    /// keeps none of it in memory.
     #[inline(always)]
     pub fn poll_with<E, X: GetHome<C, Part = P> + Outside<C, E, Checking = V> + LetGo>(
         &mut self,
@@ -141,7 +150,8 @@ impl<C, V, P> GetState<C, V, P> {
         ensures { (x' : X) × GetPolls X.GetHome X.Outside (as_nanos timeout) self.old.stage pool
             (record { answer = result; stage = self.new.stage }) x' × X.goes x' }
     {
-        // (the other answers stand in places of their own, so that one that is served at once stays in registers)
+        // (the other answers stand in places of their own, so that one that is served at once stays
+        // in registers)
         match &self.stage {
             Stage::Fresh => {
                 self.stand(Stage::Done);
@@ -226,8 +236,9 @@ impl<C, V, P> GetState<C, V, P> {
         answer
     }
 
-    /// How long a thread may sleep after a poll that was pending, before it polls the get again: not past the get's deadline, and one that waits
-    /// at most 50 milliseconds, one whose connection is checked a millisecond.
+    /// How long a thread may sleep after a poll that was pending, before it polls the get again:
+    /// not past the get's deadline, and one that waits at most 50 milliseconds, one whose
+    /// connection is checked a millisecond.
     pub fn rest(&self, now: Moment) -> Duration
         ensures { as_nanos result ≡ rest_of self.now.stage now.0 }
     {
@@ -243,9 +254,10 @@ impl<C, V, P> GetState<C, V, P> {
         Duration::from_nanos(most.min(left))
     }
 
-    /// Lets the get go: one that began and was not answered is given up as cancelled, at a reading of the clock. A connection that it holds
-    /// is asked first whether it is broken. Nothing is called where it was not polled yet, or was answered. The same as a drop of a get's
-    /// future. Upstream's caller drops its future.
+    /// Lets the get go: one that began and was not answered is given up as cancelled, at a reading
+    /// of the clock. A connection that it holds is asked first whether it is broken. Nothing is
+    /// called where it was not polled yet, or was answered. The same as a drop of a get's future.
+    /// Upstream's caller drops its future.
     pub fn cancel_step<E, X: GetHome<C, Part = P> + Outside<C, E, Checking = V>>(self, pool: &mut X)
         ensures { Cancels X.GetHome X.Outside self.stage pool.old pool.new }
     {

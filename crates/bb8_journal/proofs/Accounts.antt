@@ -107,7 +107,8 @@ more_noted A es i d few all here =
     ap (lines_from 0) (take_more es i d few) ∙ lines_more 0 i (take i es) e (omega (arith, length-take-le i es (omega arith))) in
     subst (λ (ls : List Line). All (Contains A) ls) (sym grown) (All-push (Contains A) (lines_from 0 (take i es)) (i, (e.seat, e.answer)) all here)
 
--- Notes that are as many as the entries, and among which each entry has its line, are the entries' lines in another order.
+-- Notes that are as many as the entries, and among which each entry has its line, are the entries'
+-- lines in another order.
 accounts : (i : ℕ) (es : List Entry) (A : List Line) → ((x : Line) → Contains (lines_from i es) x → Contains A x) → length A ≡ length es → IsPermutation A (lines_from i es)
 accounts i [] [] all len = IsPermutation-refl []
 accounts i [] (x ∷ A) all len = absurd (omega arith)
@@ -133,7 +134,8 @@ accounts i (e ∷ es) A all len =
     others : (x : Line) → Contains (lines_from (i + 1) es) x → Contains (remove A at.0) x
     others x h = pick x h (contains_cases b x (remove A at.0) (Contains-permutation A (b ∷ remove A at.0) x first (all x (contains_later b x (lines_from (i + 1) es) h))))
 
--- Notes of which none is missing, that are as many as the entries, and among which each entry has its line, account for the history.
+-- Notes of which none is missing, that are as many as the entries, and among which each entry has
+-- its line, account for the history.
 pub accounted : (es : List Entry) (notes : List Notes) → All (λ n. n.missing ≡ 0) notes → sum_by (λ n. length n.noted.items) notes ≡ length es
     → All (Contains (lines_noted notes)) (lines_from 0 es) → IsAccount es notes
 accounted es notes complete as_many each = record {

@@ -1,5 +1,5 @@
 -- How many ending events may still come, step by step.
-use Rattle.bb8_journal.proofs.Words.{◌≡◌, ℕ, ◌+◌, ◌<◌, ◌≤◌, max, Bool, true, false, ◌&&◌, ltb, is_some, refl, sym, ap, ◌∙◌, subst, arith, nat_tests, Told, Act, Ledger, Later, start, position, latest, handles, gets, alive, get_of, new_get, Row, begins, waits_on, serves, takes_out, waits, checks, check_fails, gives_up, gives_up_kept, gives_up_closed, keeps, returns_closed, opens, adds, leaves, fits, Allowed, IsLegal, and_right, none_lent, StateView, HasLedger, act_of, answer_of, Happens, IsTaken, endings_of, unfit_now}
+use Rattle.bb8_journal.proofs.Words.{◌≡◌, ℕ, ◌+◌, ◌<◌, ◌≤◌, max, Bool, true, false, ◌&&◌, ltb, is_some, refl, sym, ap, ◌∙◌, subst, arith, nat_tests, Told, Act, Ledger, Later, start, position, latest, handles, gets, alive, get_of, new_get, Row, begins, waits_on, serves, takes_out, waits, checks, check_fails, gives_up, gives_up_kept, gives_up_closed, keeps, returns_closed, detaches, opens, adds, leaves, shuts, fits, Allowed, IsLegal, and_right, none_lent, StateView, HasLedger, act_of, answer_of, Happens, IsTaken, endings_of, unfit_now}
 use Rattle.bb8_core.specs.declared.replay.events.Act.{Act as Named}
 use Rattle.bb8_core.specs.declared.replay.events.Act.TheVariants as named
 use Rattle.bb8_ledger.specs.Answers.{Answer}
@@ -37,12 +37,15 @@ module _ {C : Type 0} where
   row_ends l at _ _ before after f (gives_up_closed {g} {k} {n = n} holds_it shut want is) moves = omega (arith, left_told_alive (holder_ends l g k holds_it).0 n)
   row_ends l at _ _ before after f (keeps {n = n} keep is) moves = omega (arith, notify_alive (start l).first_get n (gets l))
   row_ends l at _ _ before after f (returns_closed {n = n} shut want is) moves = omega (arith, notify_alive (start l).first_get n (gets l))
+  row_ends l at _ _ before after f (detaches {n = n} want is) moves = omega (arith, notify_alive (start l).first_get n (gets l))
   row_ends l at _ _ before after f (opens {n = n} some is) moves = omega (arith, notify_alive (start l).first_get n (gets l))
   row_ends l at _ _ before after f (adds {n = n} room few is who) moves = omega (arith, notify_alive (start l).first_get n (gets l))
   row_ends l at _ _ before after f (leaves is) moves = omega (arith, is_open (handles l) f)
+  row_ends l at _ _ before after f (shuts is) moves = omega (arith, is_open (handles l) f)
   row_ends l at _ _ before after f _ moves = omega arith
 
-  -- the same of what is shown: an event that is taken ends as it says, and one that is not changes nothing
+  -- the same of what is shown: an event that is taken ends as it says, and one that is not changes
+  -- nothing
   ends_at : (l : Ledger C) (at : ℕ) (e : Act C) (a : Answer) → IsLegal l → Allowed l at e a
       → CountsDown (fits l e && is_ending e) (endings_of (shown l)) (endings_of (shown (Later l at e a)))
   ends_at l at e a legal allowed =

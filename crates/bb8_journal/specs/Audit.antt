@@ -22,7 +22,8 @@ lines_by n = map (λ p. (p.0, (n.seat, p.1))) n.noted.items
 abbrev pub lines_noted : List Notes → List Line
 lines_noted notes = flat_map lines_by notes
 
--- The notes account for the history: none is missing, and together they are the entries' indices with their seats and answers, each once.
+-- The notes account for the history: none is missing, and together they are the entries' indices
+-- with their seats and answers, each once.
 pub record IsAccount (entries : List Entry) (notes : List Notes) : Type 0 where
   pub complete : All (λ n. n.missing ≡ 0) notes
   pub each : IsPermutation (lines_noted notes) (lines_from 0 entries)

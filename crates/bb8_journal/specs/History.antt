@@ -26,8 +26,8 @@ events_of = map (λ e. e.event)
 abbrev pub answers_of : List Entry → List Answer
 answers_of = map (λ e. e.answer)
 
--- A history replays: from the empty ledger of the configuration on, the answers of its entries are allowed for their events, one by one,
--- and the state represents the ledger that they lead to.
+-- A history replays: from the empty ledger of the configuration on, the answers of its entries are
+-- allowed for their events, one by one, and the state represents the ledger that they lead to.
 abbrev pub Replays : Settings → List Entry → StateView ℕ → Type 0
 Replays config entries state = (last : Ledger ℕ) × IsRun (opening_with config 0 0) (events_of entries) (answers_of entries) last × Represents last state
 

@@ -1,4 +1,5 @@
-//! What several threads did to one pool: a history of all their events, kept under one lock with the state that they lead to.
+//! What several threads did to one pool: a history of all their events, kept under one lock with
+//! the state that they lead to.
 
 mod audits;
 mod entries;

@@ -1,5 +1,6 @@
--- What one event of a legal ledger does to the records and to the gets, by the place that it moves from and the place that it moves to.
-use Rattle.bb8_ledger.proofs.Words.{ne_eqb, ◌≡◌, ◌⊎◌, ℕ, zero, suc, ◌+◌, ◌<◌, ◌≤◌, max, Bool, true, false, cond, eqb, List, [], ◌∷◌, ◌++◌, length, take, drop, ◌-◌, map, Option, Some, None, slice_get, option_map, option_and_then, refl, sym, ap, ◌∙◌, inl, inr, arith, subst, length-append, length-map, take-length, unwrap_or, Place, Unclaimed, Idle, Held, Guarded, Standing, Holder, Guard, Get, Settings, is_lawful, Act, Leave, Answer, Left, Unfit, Numbered, at_number, update, numbers, in_order, one, standing_at, after_end, after_end_where, Ledger, Opening, Later, Start, start, position, latest, handles, records, conns, approved, idle_count, out, first_idle, unclaimed, record_of, with_ended, outlived, idled, reaped, over_idle_at, tally_places, conns_of, approved_of, idle_of, at_place, entry, at_entry, approval, with_approvals, stands, is_conn, is_approval, is_idle, is_out, is_claimed, is_guarded, is_held_by, idles_out, lives_out, is_left, with_place, Row, IsLegal, Allowed, fits, with_record, reaped_at, outlived_at, idled_at, standing_is, unclaimed_is, claimed_is, guarded_is, idle_is, and_right, ◌*◌, MatchBool, Claimed}
+-- What one event of a legal ledger does to the records and to the gets, by the place that it moves
+-- from and the place that it moves to.
+use Rattle.bb8_ledger.proofs.Words.{ne_eqb, ◌≡◌, ◌⊎◌, ℕ, zero, suc, ◌+◌, ◌<◌, ◌≤◌, max, Bool, true, false, cond, eqb, List, [], ◌∷◌, ◌++◌, length, take, drop, ◌-◌, map, Option, Some, None, slice_get, option_map, option_and_then, refl, sym, ap, ◌∙◌, inl, inr, arith, subst, length-append, length-map, take-length, unwrap_or, Place, Unclaimed, Idle, Held, Guarded, Standing, Holder, Guard, Get, Settings, is_lawful, Act, Leave, Answer, Left, Unfit, Numbered, at_number, update, numbers, in_order, one, standing_at, after_end, after_end_where, Ledger, Opening, Later, Start, start, position, latest, handles, records, conns, approved, idle_count, out, first_idle, unclaimed, record_of, with_ended, outlived, idled, reaped, over_idle_at, tally_places, conns_of, approved_of, idle_of, at_place, entry, at_entry, approval, with_approvals, stands, is_conn, is_approval, is_idle, is_out, is_claimed, is_guarded, is_held_by, idles_out, lives_out, is_left, with_place, Row, IsLegal, Allowed, fits, with_record, reaped_at, outlived_at, idled_at, retired_at, retiring, standing_is, unclaimed_is, claimed_is, guarded_is, idle_is, and_right, ◌*◌, MatchBool, Claimed}
 use Rattle.bb8_types.proofs.Numbered as numbered
 use Rattle.bb8_ledger.proofs.Facts.{conns_split}
 use Rattle.bb8_ledger.proofs.Waiters.{at_update, changed_tally}
@@ -40,7 +41,8 @@ module _ {C : Type 0} where
   pub each_allowed : (G : Answer → Type 0) (l : Ledger C) (at : ℕ) (e : Act C) (a : Answer) → Allowed l at e a → G Unfit → (fits l e ≡ true → Row l at e a → G a) → G a
   each_allowed G l at e a allowed unfit row = by_fit (fits l e) _ _ (G a) allowed row (λ t is. subst G (sym is) unfit)
 
-  -- what holds at the beginning, where an event does not fit, and by each row, holds of each legal ledger
+  -- what holds at the beginning, where an event does not fit, and by each row, holds of each legal
+  -- ledger
   pub each_legal : (P : Ledger C → Type 0) → ((s : Start) → is_lawful s.config ≡ true → P (Opening s))
       → ((l : Ledger C) (at : ℕ) (e : Act C) → P l → P (Later l at e Unfit))
       → ((l : Ledger C) (at : ℕ) (e : Act C) (a : Answer) → IsLegal l → fits l e ≡ true → Row l at e a → P l → P (Later l at e a))
@@ -116,7 +118,8 @@ module _ {C : Type 0} where
 
   -- ---- how many stand where
 
-  -- The records once one has moved from a place, or from nowhere, to a place, or to nowhere; more of them, and so many new approvals.
+  -- The records once one has moved from a place, or from nowhere, to a place, or to nowhere; more
+  -- of them, and so many new approvals.
   pub record Sized (l : Ledger C) (p q : Option (Place C)) (more n : ℕ) (rs : List (Numbered (Standing C))) : Type 0 where
     pub conns_are : conns_of rs + one (passes is_conn p) ≡ conns l + one (passes is_conn q)
     pub approved_are : approved_of rs + one (passes is_approval p) ≡ approved l + one (passes is_approval q) + n
@@ -226,7 +229,8 @@ module _ {C : Type 0} where
       free true = refl
       free false = refl
 
-  -- What the last leave does to a record: it is not idle then, it is no approval that it was not, and who has it has it.
+  -- What the last leave does to a record: it is not idle then, it is no approval that it was not,
+  -- and who has it has it.
   record IsSwept (old new : Numbered (Standing C)) : Type 0 where
     pub idle : one (stands is_idle new.standing) ≡ 0
     pub approval : one (stands is_approval new.standing) ≤ one (stands is_approval old.standing)
@@ -418,6 +422,24 @@ module _ {C : Type 0} where
         length-append (outlived_at l at) (idled_at l at),
       )
 
+  -- so does a retire
+  pub retired_holder : (l : Ledger C) (at j : ℕ) → holder_at (start l).first (with_ended (start l).first (retired_at l at) (records l)) j ≡ holder_at (start l).first (records l) j
+  retired_holder l at j = ended_holder (start l).first (retired_at l at) (records l) j (reaped_idle (retiring (start l)) (position l) (max (latest l) at) (records l))
+
+  pub retired_sized : (l : Ledger C) (at : ℕ) → AreReaped l (length (retired_at l at)) (length (retired_at l at)) 0
+      (with_ended (start l).first (retired_at l at) (records l))
+  retired_sized l at =
+      let ks : List ℕ = retired_at l at in
+      let all = reaped_idle (retiring (start l)) (position l) (max (latest l) at) (records l) in
+      omega (
+        arith,
+        ended_tally is_conn 1 (λ c. refl) (start l).first ks (records l) all,
+        ended_tally is_approval 0 (λ c. refl) (start l).first ks (records l) all,
+        ended_tally is_idle 1 (λ c. refl) (start l).first ks (records l) all,
+        ended_tally is_out 0 (λ c. refl) (start l).first ks (records l) all,
+        ended_length (start l).first ks (records l),
+      )
+
   pub granted_reaped : {l : Ledger C} {closed life : ℕ} {rs : List (Numbered (Standing C))} (n : ℕ) → AreReaped l closed life 0 rs → AreReaped l closed life n (with_approvals false n rs)
   granted_reaped {rs = rs} n s = omega (arith, s, approves false n rs)
 
@@ -428,6 +450,26 @@ module _ {C : Type 0} where
       let ih = left_sweep rs in
       let here = swept r in
       (omega (arith, ih.0, here.idle), omega (arith, ih.1, here.approval), omega (arith, ih.2, here.out))
+
+  -- The sizes after a close.
+  pub record AreShut (l : Ledger C) (rs : List (Numbered (Standing C))) : Type 0 where
+    pub conns_few : conns_of rs ≤ conns l
+    pub approved_few : approved_of rs ≤ approved l
+    pub out_are : tally_places is_out rs ≡ out l
+    pub many_are : length rs ≡ length (records l)
+    pub none_idle : idle_of rs ≡ 0
+
+  pub shut_sized : (l : Ledger C) → AreShut l (map (after_end_where is_left) (records l))
+  shut_sized l =
+      let rs : List (Numbered (Standing C)) = map (after_end_where is_left) (records l) in
+      let sweep = left_sweep (records l) in
+      record {
+        conns_few = omega (arith, conns_split rs, conns_split (records l), sweep.0);
+        approved_few = sweep.1;
+        out_are = sweep.2;
+        many_are = omega (arith, length-map (records l) (after_end_where is_left));
+        none_idle = sweep.0;
+      }
 
   -- The sizes after the leave of a handle.
   pub record AreLeft (l : Ledger C) (rs : List (Numbered (Standing C))) : Type 0 where

@@ -1,5 +1,6 @@
--- Which row of the step table an answer is, as a function that computes: so a worked row is settled by evaluation.
-use Rattle.bb8_ledger.proofs.Words.{◌≡◌, ◌≢◌, ℕ, suc, ◌+◌, ◌-◌, ◌<◌, ◌≤◌, min, max, Bool, true, false, eqb, ltb, leb, cond, List, [], ◌∷◌, Option, Some, None, is_some, option_map, slice_get, length, refl, ap, sym, subst, false≢true, eqb-true, eqb-false, ltb-true, leb-true, leb-false, Grant, Standing, Guarded, Held, Numbered, one, after_end, Act, Begin, Try, CheckedOk, CheckedErr, GiveUp, PutBack, Fill, Claim, Opened, Failed, Add, Reap, Join, Leave, Look, Answer, Begun, Memory, Exhausted, Served, Taken, Kept, Closed, GaveUp, Granted, Ended, Entered, Late, GivenBack, Added, Broken, NoCapacity, Withheld, Reaped, Joined, Left, Looked, Unfit, with_ended, Ledger, Later, start, latest, records, handles, next, next_get, conns, approved, conns_of, approved_of, idle_of, alive, first_idle, oldest_waiter, unclaimed, peak, get_peak, get_of, at_place, figures, opening_with, gets_stand, holds, is_unnotified, is_notified, Row, begins, begin_refused, begin_exhausted, waits_on, serves, takes_out, waits, checks, check_fails, gives_up, gives_up_kept, gives_up_closed, keeps, returns_closed, fills, claims, claim_ended, opens, opens_late, fails, add_broken, add_full, add_exhausted, add_refused, adds, reap_ended, reaps, joins, join_exhausted, leaves, looks, IsWant, fits, with_record, closes, reaped_at, outlived_at, idled_at, leave_count, IsGranted, IsNoGrant, numbers_left, due, lacking, Settings, is_lawful, Figures, Told, AreAllowed, IsRow, first_waits, IsBackOff, IsMostWaits, sum_of_waits, end_of_numbers, most_handles, Waiting, Claimed, after}
+-- Which row of the step table an answer is, as a function that computes: so a worked row is settled
+-- by evaluation.
+use Rattle.bb8_ledger.proofs.Words.{◌≡◌, ◌≢◌, ℕ, suc, ◌+◌, ◌-◌, ◌<◌, ◌≤◌, min, max, Bool, true, false, eqb, ltb, leb, cond, List, [], ◌∷◌, Option, Some, None, is_some, option_map, slice_get, length, refl, ap, sym, subst, false≢true, eqb-true, eqb-false, ltb-true, leb-true, leb-false, Grant, Standing, Guarded, Held, Numbered, one, after_end, Act, Begin, Try, CheckedOk, CheckedErr, GiveUp, PutBack, Detach, Fill, Ask, Claim, Opened, Failed, Add, Reap, Retire, Join, Leave, Close, Look, Answer, Begun, Memory, Exhausted, Served, Taken, Kept, Closed, GaveUp, Granted, Ended, Entered, Late, GivenBack, Added, Broken, NoCapacity, Withheld, Reaped, Joined, Left, Looked, Unfit, with_ended, Ledger, Later, start, latest, records, handles, next, next_get, conns, approved, conns_of, approved_of, idle_of, alive, idle_count, first_idle, oldest_waiter, unclaimed, peak, get_peak, get_of, at_place, figures, opening_with, asks_check, gets_stand, holds, is_unnotified, is_notified, Row, begins, begin_refused, begin_exhausted, waits_on, serves, takes_out, waits, checks, check_fails, gives_up, gives_up_kept, gives_up_closed, keeps, returns_closed, detaches, fills, asks_for, unprovided, claims, claim_ended, opens, opens_late, fails, add_broken, add_full, add_exhausted, add_refused, adds, reap_ended, reaps, retire_ended, retires, retired_at, joins, join_exhausted, leaves, shuts, looks, IsWant, fits, with_record, closes, reaped_at, outlived_at, idled_at, leave_count, IsGranted, IsNoGrant, numbers_left, due, lacking, Settings, is_lawful, Figures, Told, AreAllowed, IsRow, first_waits, IsBackOff, IsMostWaits, sum_of_waits, end_of_numbers, most_handles, Waiting, Claimed, after, is_doubtful}
 use Rattle.std.specs.Bool.{MatchBool}
 
 -- ---- tests, and what follows from what each tells
@@ -88,10 +89,10 @@ module _ {C : Type 0} where
   row_of l at Begin Memory = when_less (next_get l) end_of_numbers (λ few. when_same (alive l) (get_peak l) (λ full. Some (begin_refused few full)))
   row_of l at Begin Exhausted = when_most end_of_numbers (next_get l) (λ none. Some (begin_exhausted none))
   row_of l at (Try g) (Served k grant) =
-      unless (gets_stand is_unnotified (get_of l g)) (λ anew. unless (start l).config.test_on_check_out (λ off.
+      unless (gets_stand is_unnotified (get_of l g)) (λ anew. unless (asks_check l at k) (λ off.
       when_both (first_idle l) (Some k) (λ first. when_wanted l (with_record l k (at_place Guarded)) grant (λ want. Some (serves anew off first want)))))
   row_of l at (Try g) (Taken k grant) =
-      unless (gets_stand is_unnotified (get_of l g)) (λ anew. when (start l).config.test_on_check_out (λ on.
+      unless (gets_stand is_unnotified (get_of l g)) (λ anew. when (asks_check l at k) (λ on.
       when_both (first_idle l) (Some k) (λ first. when_wanted l (with_record l k (at_place (Held g))) grant (λ want. Some (takes_out anew on first want)))))
   row_of l at (Try g) (Waiting grant) =
       either (gets_stand is_unnotified (get_of l g)) (λ on. when_no_grant (next l) grant (λ nothing. Some (waits_on on nothing)))
@@ -103,15 +104,19 @@ module _ {C : Type 0} where
       when_both (holds (get_of l g)) (Some k) (λ held. when_wanted l (with_record l k after_end) grant (λ want. when_told l n (λ is. Some (check_fails held want is))))
   row_of l at (GiveUp g why None broken) (GaveUp n) = when_both n (cond (gets_stand is_notified (get_of l g)) (oldest_waiter l) None) (λ is. Some (gives_up is))
   row_of l at (GiveUp g why (Some c) broken) (Kept k n) =
-      when_both (holds (get_of l g)) (Some k) (λ held. unless (closes l at k broken) (λ keep. when_told l n (λ is. Some (gives_up_kept held keep is))))
+      when_both (holds (get_of l g)) (Some k) (λ held. unless (closes l at k (is_doubtful (start l).config broken)) (λ keep. when_told l n (λ is. Some (gives_up_kept held keep is))))
   row_of l at (GiveUp g why (Some c) broken) (Closed k grant n) =
-      when_both (holds (get_of l g)) (Some k) (λ held. when (closes l at k broken) (λ shut.
+      when_both (holds (get_of l g)) (Some k) (λ held. when (closes l at k (is_doubtful (start l).config broken)) (λ shut.
       when_wanted l (with_record l k after_end) grant (λ want. when_told l n (λ is. Some (gives_up_closed held shut want is)))))
   row_of l at (PutBack k c broken) (Kept m n) =
       moved m k (λ q. Row l at (PutBack k c broken) (Kept q n)) (unless (closes l at k broken) (λ keep. when_told l n (λ is. Some (keeps keep is))))
   row_of l at (PutBack k c broken) (Closed m grant n) = moved m k (λ q. Row l at (PutBack k c broken) (Closed q grant n))
       (when (closes l at k broken) (λ shut. when_wanted l (with_record l k after_end) grant (λ want. when_told l n (λ is. Some (returns_closed shut want is)))))
+  row_of l at (Detach k) (Closed m grant n) = moved m k (λ q. Row l at (Detach k) (Closed q grant n))
+      (when_wanted l (with_record l k after_end) grant (λ want. when_told l n (λ is. Some (detaches want is))))
   row_of l at (Fill claimed) (Granted grant) = when_wanted l (records l) grant (λ want. Some (fills want))
+  row_of l at Ask (Granted grant) = when_granted (next l) (conns l + approved l) (peak l)
+      (due (start l).config (handles l) (conns l + approved l) (unprovided l)) grant (λ asked. Some (asks_for asked))
   row_of l at Claim (Claimed k) = when_less 0 (handles l) (λ open_now. when_both (slice_get (unclaimed l) 0) k (λ first. Some (claims open_now first)))
   row_of l at Claim Ended = when_same (handles l) 0 (λ none. Some (claim_ended none))
   row_of l at (Opened k c) (Entered m n) = moved m k (λ q. Row l at (Opened k c) (Entered q n)) (when_less 0 (handles l) (λ open_now. when_told l n (λ is. Some (opens open_now is))))
@@ -129,9 +134,15 @@ module _ {C : Type 0} where
       when_same closed (length (reaped_at l at)) (λ closed_is. when_same by_idle (length (idled_at l at)) (λ by_idle_is.
       when_same by_life (length (outlived_at l at)) (λ by_life_is. when_wanted l (with_ended (start l).first (reaped_at l at) (records l)) grant (λ want.
       Some (reaps open_now closed_is by_idle_is by_life_is want))))))
+  row_of l at Retire Ended = when_same (handles l) 0 (λ none. Some (retire_ended none))
+  row_of l at Retire (Reaped closed by_idle by_life grant) = when_less 0 (handles l) (λ open_now.
+      moved by_idle 0 (λ q. Row l at Retire (Reaped closed q by_life grant)) (moved by_life 0 (λ q. Row l at Retire (Reaped closed 0 q grant))
+      (when_same closed (length (retired_at l at)) (λ closed_is. when_wanted l (with_ended (start l).first (retired_at l at) (records l)) grant (λ want.
+      Some (retires open_now closed_is want))))))
   row_of l at Join Joined = when_less (handles l) most_handles (λ few. Some (joins few))
   row_of l at Join Exhausted = when_most most_handles (handles l) (λ most. Some (join_exhausted most))
   row_of l at Leave (Left n) = when_same n (leave_count l) (λ is. Some (leaves is))
+  row_of l at Close (Left n) = when_same n (idle_count l) (λ is. Some (shuts is))
   row_of l at Look (Looked m open_now) = when_same m (max (latest l) at) (λ is. when_agree open_now (ltb 0 (handles l)) (λ same. Some (looks is same)))
   row_of l at _ _ = None
 

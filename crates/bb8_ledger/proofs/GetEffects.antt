@@ -1,4 +1,5 @@
--- What one event does to the gets, where a get that was not in line ends or moves to a place where it does not wait.
+-- What one event does to the gets, where a get that was not in line ends or moves to a place where
+-- it does not wait.
 use Rattle.bb8_ledger.proofs.Words.{length-append, ◌≤◌, max, ◌≡◌, ℕ, suc, ◌+◌, ◌-◌, min, Bool, true, false, cond, eqb, List, [], ◌∷◌, ◌++◌, length, Option, Some, None, is_some, slice_get, option_map, option_and_then, refl, sym, ap, ◌∙◌, arith, GetPlace, Active, Holding, Getting, Numbered, at_number, update, in_order, one, standing_at, after_end, Ledger, start, position, latest, gets, alive, notified, unnotified, unnotified_at, oldest_waiter, get_of, tally_gets, alive_of, new_get, get_at_place, at_wait, with_notice, holds, held_in, gets_stand, is_notified, is_unnotified, get_with_place, is_trying, Before, and_right, Waiting, inl, inr}
 use Rattle.bb8_types.proofs.Numbered as numbered
 use Rattle.bb8_ledger.proofs.Facts.{waited_before}
@@ -36,7 +37,8 @@ holding_is (Some s) k h = (s, refl, go s.place h)
     go _ h = cc
 
 module _ {C : Type 0} where
-  -- the get g is alive and not in line, and is changed to one that does not wait: b more are alive than with it ended
+  -- the get g is alive and not in line, and is changed to one that does not wait: b more are alive
+  -- than with it ended
   pub record Leaves (l : Ledger C) (g b : ℕ) (f : Numbered Getting → Numbered Getting) : Type 0 where
     pub standing : Getting
     pub was : get_of l g ≡ Some standing

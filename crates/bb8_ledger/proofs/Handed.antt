@@ -1,10 +1,11 @@
 -- Where each notification is handed over, who waits is served in order.
-use Rattle.bb8_ledger.proofs.Words.{eq-eqb, ◌≡◌, ◌≢◌, ◌⊎◌, ℕ, suc, ◌+◌, ◌-◌, ◌<◌, ◌≤◌, min, max, Bool, true, false, cond, eqb, List, [], ◌∷◌, length, Option, Some, None, is_some, slice_get, option_map, option_and_then, refl, sym, ap, ◌∙◌, arith, subst, inl, inr, IfSome, GetPlace, Holding, Waiting, Getting, Place, Idle, Standing, Numbered, at, at_number, update, in_order, numbers, tally, one, standing_at, after_end, gets_stand, stands, is_unnotified, is_notified, is_trying, is_idle, get_with_place, unnotified_at, get_at_place, with_notice, entry, Act, Try, Answer, Unfit, Served, Taken, Ledger, Later, start, position, latest, records, gets, next, idle_count, notified, handles, conns, approved, first_idle, record_of, get_of, with_record, Row, begins, waits_on, serves, takes_out, waits, check_fails, gives_up, gives_up_kept, gives_up_closed, keeps, returns_closed, opens, adds, IsLegal, fits, and_right, standing_is, Guarded}
+use Rattle.bb8_ledger.proofs.Words.{eq-eqb, ◌≡◌, ◌≢◌, ◌⊎◌, ℕ, suc, ◌+◌, ◌-◌, ◌<◌, ◌≤◌, min, max, Bool, true, false, cond, eqb, List, [], ◌∷◌, length, Option, Some, None, is_some, slice_get, option_map, option_and_then, refl, sym, ap, ◌∙◌, arith, subst, inl, inr, IfSome, GetPlace, Holding, Waiting, Getting, Place, Idle, Standing, Numbered, at, at_number, update, in_order, numbers, tally, one, standing_at, after_end, gets_stand, stands, is_unnotified, is_notified, is_trying, is_idle, get_with_place, unnotified_at, get_at_place, with_notice, entry, Act, Try, Answer, Unfit, Served, Taken, Ledger, Later, start, position, latest, records, gets, next, idle_count, notified, handles, conns, approved, first_idle, record_of, get_of, with_record, Row, begins, waits_on, serves, takes_out, waits, check_fails, gives_up, gives_up_kept, gives_up_closed, keeps, returns_closed, detaches, opens, adds, asks_for, IsLegal, fits, and_right, standing_is, Guarded, MatchBool, Allowed}
 use Rattle.bb8_ledger.specs.Ledger.{numbered_get}
 use Rattle.bb8_ledger.specs.Limits.{WaitsSince}
 use Rattle.bb8_ledger.specs.Answers as answers
-use Rattle.bb8_ledger.specs.Handed.{told_by, brought_by, just_told, just_brought, waiters, notified_at, oldest_notified, due_try, HandsOver, IsFirst, past, served_up_to, AllWaitBehind, GoesWith, TriesInTurn, AlwaysInTurn, unasked, KeepsOrder, TriesWhenTold, IsOrderly}
+use Rattle.bb8_ledger.specs.Handed.{told_by, brought_by, just_told, just_brought, waiters, notified_at, oldest_notified, due_try, HandsOver, IsFirst, past, served_up_to, AllWaitBehind, GoesWith, TriesInTurn, AlwaysInTurn, unasked, KeepsOrder, TriesWhenTold, IsOrderly, IsPrompt}
 use Rattle.bb8_ledger.specs.Limits.{lost}
+use Rattle.bb8_ledger.specs.Handed.{missed}
 use Rattle.bb8_types.proofs.Numbered as numbered
 use Rattle.bb8_ledger.proofs.Waiters.{some_tally, in_order_some, in_order_least, both_hold, one_few, at_update, tally_update, getting_is, handed, is_waiting}
 use Rattle.bb8_ledger.proofs.Effects.{each_legal, place_of, Turns, updated_shows, idle_turns, returns_turn, opens_turn}
@@ -225,7 +226,8 @@ module _ {C : Type 0} where
 
   -- ---- what a history that hands over keeps
 
-  -- Where somebody waits, nothing is idle but what became idle just now; and what is counted of those who wait.
+  -- Where somebody waits, nothing is idle but what became idle just now; and what is counted of
+  -- those who wait.
   record IsHanded (l : Ledger C) : Type 0 where
     pub settled : min (waiters l) (idle_count l - one (is_some (just_brought l))) ≡ 0
     pub few : LosesFew l
@@ -371,7 +373,7 @@ module _ {C : Type 0} where
       row_behind l at e a legal f row (row_in_turn l at e a legal f row (all_handed l legal t.0) t.1) (before t.0))
 
   provided_open : (l : Ledger C) → 0 < handles l → Provides l
-      → min (waiters l - (approved l + idle_count l + lost l)) ((start l).config.max_size - (conns l + approved l + lost l + unasked l)) ≡ 0
+      → min (waiters l - (approved l + idle_count l + missed l)) ((start l).config.max_size - (conns l + approved l + missed l + unasked l)) ≡ 0
   provided_open l open_now p = omega arith
 
   -- a notified get is counted
@@ -405,7 +407,7 @@ module _ {C : Type 0} where
           ]
         ];
         provided = λ open_now.
-            elim (either_none (waiters l - (approved l + idle_count l + lost l)) ((start l).config.max_size - (conns l + approved l + lost l + unasked l)) (provided_open l open_now i.provided)) [
+            elim (either_none (waiters l - (approved l + idle_count l + missed l)) ((start l).config.max_size - (conns l + approved l + missed l + unasked l)) (provided_open l open_now i.provided)) [
               | inl e ↦ inl (omega (arith, e))
               | inr e ↦ inr (omega (arith, e))
             ];
@@ -439,6 +441,7 @@ module _ {C : Type 0} where
       told_is (start l).first_get (position l) n (left_gets t) g (left_oldest t n is) told
   row_told l at _ _ g f (keeps {n = n} keep is) told = told_is (start l).first_get (position l) n (gets l) g is told
   row_told l at _ _ g f (returns_closed {n = n} shut want is) told = told_is (start l).first_get (position l) n (gets l) g is told
+  row_told l at _ _ g f (detaches {n = n} want is) told = told_is (start l).first_get (position l) n (gets l) g is told
   row_told l at _ _ g f (opens {n = n} open_now is) told = told_is (start l).first_get (position l) n (gets l) g is told
   row_told l at _ _ g f (adds {n = n} room few is who) told = told_is (start l).first_get (position l) n (gets l) g who told
   row_told l at _ _ g f _ told = cc
@@ -456,6 +459,7 @@ module _ {C : Type 0} where
     pub over : HandsOver l
     pub few : notified l ≡ one (is_some (just_told l))
     pub asked : unasked l ≤ one (is_some (just_told l)) - idle_count l
+    pub none_missed : missed l ≡ lost l
 
   -- who was told tries, so whose try is due
   told_due : (l : Ledger C) (e : Act C) → IsLegal l → IsAtOnce l → IsOf (just_told l) e → IsOf (due_try l) e × (one (is_some (just_told l)) ≤ notified_in l e)
@@ -480,6 +484,13 @@ module _ {C : Type 0} where
               let n = found is_notified l j on in
               own ∙ ap Try (none_else (gets_stand is_notified) (gets l) (start l).first_get g j m.0 n.0 refl m.1 m.2 n.1 n.2 (omega (arith, i.few, one_few (is_some (just_told l)))))
 
+  -- an ask that finds nobody notified misses what was lost
+  none_missed_then : (l : Ledger C) (at : ℕ) (e : Act C) (a : Answer) → Row l at e a → missed l ≡ lost l → notified l ≤ notified_in l e → missed (Later l at e a) ≡ lost (Later l at e a)
+  none_missed_then l at _ _ (asks_for {grant} asked) same few =
+      let none : notified l ≡ 0 = omega (arith, few) in
+      ap (λ (n : ℕ). cond (eqb n 0) grant.withheld (missed l)) none
+  none_missed_then l at _ _ _ same few = omega (arith, same)
+
   row_at_once : (l : Ledger C) (at : ℕ) (e : Act C) (a : Answer) → IsLegal l → fits l e ≡ true → Row l at e a → IsOf (just_told l) e → IsAtOnce l → IsAtOnce (Later l at e a)
   row_at_once l at e a legal f row own i =
       let s = row_sums l at e a legal f row in
@@ -489,6 +500,7 @@ module _ {C : Type 0} where
         over = both l at e a row i.over d.0;
         few = omega (arith, s.told_few, i.few, d.1, shows, told_now (told_by a) refl);
         asked = omega (arith, s.asks (met l e legal d.0) (omega (arith, i.few, d.1)) (omega (arith, i.asked, d.1)), shows);
+        none_missed = none_missed_then l at e a row i.none_missed (omega (arith, i.few, d.1));
       }
     where
       both : (l : Ledger C) (at : ℕ) (e : Act C) (a : Answer) → Row l at e a → HandsOver l → IsOf (due_try l) e → HandsOver (Later l at e a)
@@ -505,8 +517,8 @@ module _ {C : Type 0} where
 
   all_at_once : (l : Ledger C) → IsLegal l → TriesWhenTold l → IsAtOnce l
   all_at_once = each_legal (λ l. TriesWhenTold l → IsAtOnce l)
-      (λ s lawful h. record { over = tt; few = refl; asked = omega arith })
-      (λ l at e before h. let i = before h in record { over = i.over; few = i.few; asked = i.asked })
+      (λ s lawful h. record { over = tt; few = refl; asked = omega arith; none_missed = refl })
+      (λ l at e before h. let i = before h in record { over = i.over; few = i.few; asked = i.asked; none_missed = i.none_missed })
       (λ l at e a legal f row before h. let t = fitted_told l at e a row h in row_at_once l at e a legal f row t.1 (before t.0))
 
   -- who waits is served in order, where the history hands over
@@ -520,6 +532,7 @@ module _ {C : Type 0} where
           few = i.few;
           told = told (just_told l) refl;
           asked = λ none. omega (arith, i.asked, ap (λ (o : Option ℕ). one (is_some o)) none);
+          none_missed = i.none_missed;
         };
   }
     where
@@ -544,8 +557,39 @@ module _ {C : Type 0} where
           let y = idle_found l k (on k refl) in
           absurd (omega (arith, idle_none l none, some_tally (λ (r : Numbered (Standing C)). stands is_idle r.standing) (records l) (start l).first k y.0 y.1 y.2))
 
-  -- Where nobody was notified before, a get that an event notifies, and that tries at once, goes out with the connection that the event
-  -- brought, or waits anew where it brought none; and nobody is notified then.
+  -- an event goes on with a prompt history, and says itself who is to try
+  told_fitted : (l : Ledger C) (at : ℕ) (e : Act C) (a : Answer) → Row l at e a → TriesWhenTold l → IsOf (just_told l) e → TriesWhenTold (Later l at e a)
+  told_fitted l at e _ (begins is few) h o = (h, o)
+  told_fitted l at e _ _ h o = (h, o)
+
+  prompt_row : (l : Ledger C) (at : ℕ) (e : Act C) (a : Answer) → Row l at e a → IsPrompt l → TriesWhenTold (Later l at e a) × (just_told (Later l at e a) ≡ told_by a)
+  prompt_row l at e a row p = (told_fitted l at e a row p.0 (subst (λ (o : Option ℕ). IsOf o e) (sym p.1) tt), (row_shows l at e a row).0)
+
+  -- where it notified nobody, the history is prompt still
+  pub prompt_then : (l : Ledger C) (at : ℕ) (e : Act C) (a : Answer) → Allowed l at e a → told_by a ≡ None → IsPrompt l → IsPrompt (Later l at e a)
+  prompt_then l at e a allowed none p = go (fits l e) allowed
+    where
+      go : (b : Bool) → MatchBool b (Row l at e a) (a ≡ Unfit) → IsPrompt (Later l at e a)
+      go true row = let r = prompt_row l at e a row p in (r.0, r.1 ∙ none)
+      go false is = subst (λ (x : Answer). IsPrompt (Later l at e x)) (sym is) p
+
+  tells_nobody : (l : Ledger C) (at g : ℕ) (b : Answer) → Row l at (Try g) b → told_by b ≡ None
+  tells_nobody l at g _ (waits_on on nothing) = refl
+  tells_nobody l at g _ _ = refl
+
+  -- and where it notified a get, it is with the try of that get
+  pub prompt_tried : (l : Ledger C) (at then g : ℕ) (e : Act C) (a b : Answer) → Row l at e a → told_by a ≡ Some g → Row (Later l at e a) then (Try g) b
+      → IsPrompt l → IsPrompt (Later (Later l at e a) then (Try g) b)
+  prompt_tried l at then g e a b row told tries p =
+      let r = prompt_row l at e a row p in
+      let later : Ledger C = Later l at e a in (
+        told_fitted later then (Try g) b tries r.0 (subst (λ (o : Option ℕ). IsOf o (Try g)) (sym (r.1 ∙ told)) refl),
+        (row_shows later then (Try g) b tries).0 ∙ tells_nobody later then g b tries,
+      )
+
+  -- Where nobody was notified before, a get that an event notifies, and that tries at once, goes
+  -- out with the connection that the event brought, or waits anew where it brought none; and nobody
+  -- is notified then.
   pub handed_over : (l : Ledger C) (at then g : ℕ) (e : Act C) (a b : Answer) → IsLegal (Later l at e a) → fits l e ≡ true → Row l at e a → told_by a ≡ Some g
       → Row (Later l at e a) then (Try g) b → notified l ≡ 0 → GoesWith (brought_by a) b × (notified (Later (Later l at e a) then (Try g) b) ≡ 0)
   handed_over l at then g e a b legal f row told tries none =

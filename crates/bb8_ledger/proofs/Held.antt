@@ -1,8 +1,9 @@
--- Who holds what: what a get holds is out in its hands and its last fitting try took it, and what is lent is with a guard.
-use Rattle.bb8_ledger.proofs.Words.{◌≡◌, ℕ, max, Bool, true, false, cond, not, eqb, ◌&&◌, ◌||◌, Option, Some, None, is_some, List, map, option_map, refl, sym, ap, ◌∙◌, subst, Grant, Place, Idle, Held, Guarded, Standing, Holder, Guard, Get, Active, Act, Try, PutBack, Leave, Answer, Served, Taken, Kept, Closed, Left, Numbered, update, after_end, after_end_where, Ledger, Later, start, position, latest, handles, records, gets, record_of, get_of, at_place, entry, at_entry, with_approvals, get_at_place, at_wait, with_notice, oldest_waiter, holds, stands, gets_stand, is_held_by, is_left, is_trying, is_notified, Row, begins, waits_on, serves, takes_out, waits, checks, check_fails, gives_up, gives_up_kept, gives_up_closed, keeps, returns_closed, fills, claims, opens, opens_late, fails, adds, reaps, leaves, IsLegal, fits, agree, and_right, HasTaken, last_try, ServesChecked, NeverServesUnchecked, is_lent, ServesUnlent, NeverServesTwice, IfSome, get_in}
+-- Who holds what: what a get holds is out in its hands and its last fitting try took it, and what
+-- is lent is with a guard.
+use Rattle.bb8_ledger.proofs.Words.{◌≡◌, ℕ, max, Bool, true, false, cond, not, eqb, ◌&&◌, ◌||◌, Option, Some, None, is_some, List, map, option_map, refl, sym, ap, ◌∙◌, subst, Grant, Place, Idle, Held, Guarded, Standing, Holder, Guard, Get, Active, Act, Try, PutBack, Detach, Leave, Answer, Served, Taken, Kept, Closed, Left, Numbered, update, after_end, after_end_where, Ledger, Later, start, position, latest, handles, records, gets, record_of, get_of, at_place, entry, at_entry, with_approvals, get_at_place, at_wait, with_notice, oldest_waiter, holds, stands, gets_stand, is_held_by, is_left, is_trying, is_notified, Row, begins, waits_on, serves, takes_out, waits, checks, check_fails, gives_up, gives_up_kept, gives_up_closed, keeps, returns_closed, detaches, fills, asks_for, claims, opens, opens_late, fails, adds, reaps, retires, leaves, shuts, IsLegal, fits, agree, and_right, HasTaken, last_try, ServesChecked, NeverServesUnchecked, is_lent, ServesUnlent, NeverServesTwice, IfSome, get_in}
 use Rattle.bb8_types.proofs.Numbered as numbered
 use Rattle.bb8_ledger.proofs.Waiters.{getting_is}
-use Rattle.bb8_ledger.proofs.Effects.{each_legal, place_of, Turns, to_place, returns_turn, closes_turn, opens_turn, ends_turn, held_turns, idle_turns, unclaimed_turns, holder_in, holder_at, holder, turned_holder, turned_from, kept_holder, appended_same, granted_holder, reaped_holder, left_holder}
+use Rattle.bb8_ledger.proofs.Effects.{each_legal, place_of, Turns, to_place, returns_turn, closes_turn, opens_turn, ends_turn, held_turns, idle_turns, unclaimed_turns, holder_in, holder_at, holder, turned_holder, turned_from, kept_holder, appended_same, granted_holder, reaped_holder, retired_holder, left_holder}
 use Rattle.bb8_ledger.proofs.GetEffects.{held_at, dropped_holds, taken_holds, told_holds, told_dropped, begun_holds, put_nothing, waits_nothing, trying_quiet, oldest_quiet}
 
 -- whether it is this number
@@ -73,12 +74,14 @@ module _ {C : Type 0} where
   abbrev held_before : Act C → Answer → Option ℕ
   held_before (Try g) a = None
   held_before (PutBack k c broken) a = None
+  held_before (Detach k) a = None
   held_before e a = named a
 
   -- who had the connection
   abbrev comes_from : Act C → Option Holder
   comes_from (Try g) = None
   comes_from (PutBack k c broken) = Some Guard
+  comes_from (Detach k) = Some Guard
   comes_from e = option_map Get (get_in e)
 
   -- who has it then
@@ -91,8 +94,8 @@ module _ {C : Type 0} where
   abbrev holder_of : Ledger C → ℕ → Option Holder
   holder_of l k = holder_at (start l).first (records l) k
 
-  -- The get of an event then holds what the answer took, the connection that the answer names goes from one holder to another, and nothing
-  -- else is handed over.
+  -- The get of an event then holds what the answer took, the connection that the answer names goes
+  -- from one holder to another, and nothing else is handed over.
   record Hands (l : Ledger C) (at : ℕ) (e : Act C) (a : Answer) : Type 0 where
     pub gets : (g : ℕ) → holds (get_of (Later l at e a) g) ≡ cond (is_it g (get_in e)) (taken_in a) (holds (get_of l g))
     pub had : IfSome (get_in e) (λ g. holds (get_of l g) ≡ held_before e a)
@@ -197,7 +200,11 @@ module _ {C : Type 0} where
   row_hands l at _ _ h f (returns_closed {k = j} {grant} {n} shut want is) =
       let t = closes_turn l j f in
       record { gets = told l n is; had = tt; conns = λ k. granted l false grant.count _ k ∙ turned_holder k t; from = turned_from t }
+  row_hands l at _ _ h f (detaches {k = j} {grant} {n} want is) =
+      let t = closes_turn l j f in
+      record { gets = told l n is; had = tt; conns = λ k. granted l false grant.count _ k ∙ turned_holder k t; from = turned_from t }
   row_hands l at _ _ h f (fills {claimed} {grant} want) = record { gets = λ g. refl; had = tt; conns = granted l claimed grant.count (records l); from = tt }
+  row_hands l at _ _ h f (asks_for {grant} asked) = record { gets = λ g. refl; had = tt; conns = granted l false grant.count (records l); from = tt }
   row_hands l at _ _ h f (claims {k = Some j} open_now first) = record { gets = λ g. refl; had = tt; conns = λ k. kept_holder k (unclaimed_turns l j first) refl refl; from = tt }
   row_hands l at _ _ h f (opens {k = j} {c} {n} open_now is) = record { gets = told l n is; had = tt; conns = λ k. kept_holder k (opens_turn l at j c f) refl refl; from = tt }
   row_hands l at _ _ h f (opens_late {k = j} none) = record { gets = λ g. refl; had = tt; conns = λ k. kept_holder k (ends_turn l j f) refl refl; from = tt }
@@ -206,12 +213,16 @@ module _ {C : Type 0} where
       record { gets = told l n who; had = tt; conns = λ k. appended_same holder (records l) (start l).first k (entry c (max (latest l) at) (max (latest l) at) (position l)) refl; from = tt }
   row_hands l at _ _ h f (reaps {grant} open_now closed_is by_idle_is by_life_is want) =
       record { gets = λ g. refl; had = tt; conns = λ k. granted l false grant.count _ k ∙ reaped_holder l at k; from = tt }
+  row_hands l at _ _ h f (retires {grant} open_now closed_is want) =
+      record { gets = λ g. refl; had = tt; conns = λ k. granted l false grant.count _ k ∙ retired_holder l at k; from = tt }
   row_hands l at _ _ h f (leaves {n} is) = record { gets = λ g. refl; had = tt; conns = left l at n; from = tt }
+  row_hands l at _ _ h f (shuts {n} is) = record { gets = λ g. refl; had = tt; conns = λ k. left_holder (start l).first k (records l); from = tt }
   row_hands l at _ _ h f _ = record { gets = λ g. refl; had = tt; conns = λ k. refl; from = tt }
 
   -- ---- what a get holds is out in its hands
 
-  -- What a get held was named, or it holds it still; and only the event's get has the connection before or then.
+  -- What a get held was named, or it holds it still; and only the event's get has the connection
+  -- before or then.
   record IsMatched (e : Act C) (a : Answer) : Type 0 where
     pub other_conn : (k : ℕ) → is_it k (named a) ≡ false → is_it k (taken_in a) ≡ is_it k (held_before e a)
     pub other_get : (g : ℕ) → is_it g (get_in e) ≡ false → has_get g (comes_from e) ≡ has_get g (goes_to e a)
@@ -265,6 +276,7 @@ module _ {C : Type 0} where
   row_lent l at _ _ (checks {k = m} holds_it nothing) x h = λ k. ap has_guard (x.conns k) ∙ one_more (eqb k m) _ _ (h k)
   row_lent l at _ _ (keeps {k = m} keep is) x h = λ k. ap has_guard (x.conns k) ∙ one_less (eqb k m) _ _ (h k)
   row_lent l at _ _ (returns_closed {k = m} shut want is) x h = λ k. ap has_guard (x.conns k) ∙ one_less (eqb k m) _ _ (h k)
+  row_lent l at _ _ (detaches {k = m} want is) x h = λ k. ap has_guard (x.conns k) ∙ one_less (eqb k m) _ _ (h k)
   row_lent l at e a row x h = λ k. ap has_guard (x.conns k)
       ∙ as_many (is_it k (named a)) (goes_to e a) (comes_from e) (holder_of l k) (if_it (λ i. holder_of l i ≡ comes_from e) (named a) x.from k) refl ∙ h k
 
@@ -296,7 +308,7 @@ module _ {C : Type 0} where
   all_taken : (l : Ledger C) → IsLegal l → AllTaken l
   all_taken = each_legal AllTaken (λ s lawful g k now. cc) (λ l at e h. h) (λ l at e a legal f row h. row_taken l at e a row (hands l at e a legal f row) h)
 
-  row_checked : (l : Ledger C) (at : ℕ) (e : Act C) (a : Answer) → IsLegal l → Row l at e a → ServesChecked l e a
+  row_checked : (l : Ledger C) (at : ℕ) (e : Act C) (a : Answer) → IsLegal l → Row l at e a → ServesChecked l at e a
   row_checked l at _ _ legal (serves anew off first want) = λ on. absurd (let clash : false ≡ true = sym off ∙ on in cc)
   row_checked l at _ _ legal (checks {g} {k} holds_it nothing) = λ on. (g, refl, all_taken l legal g k holds_it)
   row_checked l at _ _ legal _ = tt

@@ -1,5 +1,5 @@
 -- What holds of every legal ledger: the limits, the laws, and the promises to those who wait.
-use Rattle.bb8_ledger.proofs.Words.{Place, stands, one, ◌≡◌, ◌⊎◌, ℕ, suc, ◌+◌, ◌-◌, ◌<◌, ◌≤◌, max, min, true, false, Option, Some, sym, ap, ◌∙◌, inl, inr, arith, subst, is_some, Standing, Getting, is_lawful, Counts, Act, Try, GiveUp, Answer, update, after_end, Ledger, Opening, Later, start, position, latest, records, gets, handles, next, next_get, conns, approved, idle_count, alive, notified, unnotified, oldest_waiter, record_of, get_of, with_notice, counts, is_conn, is_approval, is_out, gets_stand, is_unnotified, is_trying, Row, begins, waits_on, serves, takes_out, waits, checks, check_fails, gives_up, gives_up_kept, gives_up_closed, keeps, returns_closed, opens, adds, IsLegal, fits, KeepsLimits, KeepsLaws, KeepsPromises, NeverForgets, MayLower, lost, and_right, conn_from, Claimed}
+use Rattle.bb8_ledger.proofs.Words.{Place, stands, one, ◌≡◌, ◌⊎◌, ℕ, suc, ◌+◌, ◌-◌, ◌<◌, ◌≤◌, max, min, true, false, Option, Some, sym, ap, ◌∙◌, inl, inr, arith, subst, is_some, Standing, Getting, is_lawful, Counts, Act, Try, GiveUp, Answer, update, after_end, Ledger, Opening, Later, start, position, latest, records, gets, handles, next, next_get, conns, approved, idle_count, alive, notified, unnotified, oldest_waiter, record_of, get_of, with_notice, counts, is_conn, is_approval, is_out, gets_stand, is_unnotified, is_trying, Row, begins, waits_on, serves, takes_out, waits, checks, check_fails, gives_up, gives_up_kept, gives_up_closed, keeps, returns_closed, detaches, opens, adds, IsLegal, fits, KeepsLimits, KeepsLaws, KeepsPromises, NeverForgets, MayLower, lost, and_right, conn_from, Claimed, asks_check, ◌&&◌, Bool, ltb, leb, not, refl}
 use Rattle.bb8_types.proofs.Numbered as numbered
 use Rattle.bb8_ledger.proofs.Facts.{conns_split, waited_before}
 use Rattle.bb8_ledger.proofs.Waiters.{changed_tally, getting_is, alive_counted, InLine, line_later, line_begun, line_begins, line_notified, line_given_up}
@@ -19,7 +19,7 @@ pub record Fits (max_size conns approved next alive next_get : ℕ) (c : Counts)
   pub started_few : c.started ≤ next_get
   pub answered : c.direct + c.waited + c.timed_out + c.cancelled + alive ≡ c.started
   pub created_few : c.created + approved ≤ next
-  pub closed_few : c.broken + c.max_lifetime + conns + approved ≤ next
+  pub closed_few : c.broken + c.retired + c.max_lifetime + c.detached + conns + approved ≤ next
 
 module _ {C : Type 0} where
   abbrev pub AllFit : Ledger C → Type 0
@@ -85,6 +85,11 @@ module _ {C : Type 0} where
     pending = omega (arith, (all_fit l legal).answered);
   }
 
+  -- where `test_after` is 0, as it is where nothing is set, all are to be checked, or none: as the
+  -- check is on or off
+  pub checks_all : (l : Ledger C) (at k : ℕ) → (start l).config.test_after ≡ 0 → asks_check l at k ≡ (start l).config.test_on_check_out
+  checks_all l at k zero = grind (arith, zero)
+
   -- ---- the promises
 
   abbrev pub AllInLine : Ledger C → Type 0
@@ -114,6 +119,7 @@ module _ {C : Type 0} where
   row_in_line l at _ _ f (gives_up_closed {g} {k} {n} holds_it shut want is) i = left_told_line (holder_ends l g k holds_it).0 n is i
   row_in_line l at _ _ f (keeps {n} keep is) i = told_in_line l n is i
   row_in_line l at _ _ f (returns_closed {n} shut want is) i = told_in_line l n is i
+  row_in_line l at _ _ f (detaches {n} want is) i = told_in_line l n is i
   row_in_line l at _ _ f (opens {n} open_now is) i = told_in_line l n is i
   row_in_line l at _ _ f (adds {n} room few is who) i = told_in_line l n who i
   row_in_line l at _ _ f _ i = line_later (start l).first_get (position l) (gets l) i

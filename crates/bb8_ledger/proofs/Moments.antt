@@ -1,9 +1,10 @@
 -- No birth and no entry lies after the latest moment, and none entered after now.
-use Rattle.bb8_ledger.proofs.Words.{◌≡◌, ℕ, zero, suc, ◌≤◌, max, Bool, true, false, cond, eqb, List, [], ◌∷◌, ◌++◌, map, Option, Some, None, option_map, option_and_then, refl, arith, Place, Idle, Held, Guarded, Standing, Numbered, at, standing_at, update, after_end, after_end_where, is_left, with_place, birth_in, Act, Try, CheckedOk, CheckedErr, GiveUp, PutBack, Fill, Claim, Opened, Failed, Add, Reap, Leave, Answer, Served, Taken, Kept, Closed, Granted, Entered, Late, GivenBack, Added, Reaped, Left, Unfit, Ledger, Opening, Later, Start, start, position, latest, handles, records, record_of, records_after, moment_after, reaped, with_ended, with_approvals, approval, at_place, at_entry, entry, is_idle, sym, ◌∙◌, ◌<◌, Unclaimed, Claimed, Waiting}
+use Rattle.bb8_ledger.proofs.Words.{◌≡◌, ℕ, zero, suc, ◌≤◌, max, Bool, true, false, cond, eqb, List, [], ◌∷◌, ◌++◌, map, Option, Some, None, option_map, option_and_then, refl, arith, Place, Idle, Held, Guarded, Standing, Numbered, at, standing_at, update, after_end, after_end_where, is_left, with_place, birth_in, Act, Try, CheckedOk, CheckedErr, GiveUp, PutBack, Detach, Fill, Ask, Claim, Opened, Failed, Add, Reap, Retire, retiring, Leave, Close, Answer, Served, Taken, Kept, Closed, Granted, Entered, Late, GivenBack, Added, Reaped, Left, Unfit, Ledger, Opening, Later, Start, start, position, latest, handles, records, record_of, records_after, moment_after, reaped, with_ended, with_approvals, approval, at_place, at_entry, entry, is_idle, sym, ◌∙◌, ◌<◌, Unclaimed, Claimed, Waiting}
 use Rattle.bb8_ledger.specs.Answers as answers
 
 module _ {C : Type 0} where
-  -- the moments of a record are no later than this one, and it is idle since a position before this one
+  -- the moments of a record are no later than this one, and it is idle since a position before this
+  -- one
   abbrev pub IsUpTo : ℕ → ℕ → Numbered (Standing C) → Type 0
   IsUpTo m q r = (s : Standing C) → r.standing ≡ Some s → (s.birth ≤ m) × (s.entered ≤ m) × (is_idle s.place ≡ true → r.position < q)
 
@@ -87,7 +88,9 @@ module _ {C : Type 0} where
   up_to_after s h q late at rs (GiveUp g why held broken) (Closed k grant n) was u = granted _ _ false grant.count _ (updated _ _ s.first k after_end rs (λ r _. ended _ _ r) u)
   up_to_after s h q late at rs (PutBack k c broken) (Kept j n) was u = updated _ _ s.first k (at_entry c (max late at) q) rs (kept _ q c) u
   up_to_after s h q late at rs (PutBack k c broken) (Closed j grant n) was u = granted _ _ false grant.count _ (updated _ _ s.first k after_end rs (λ r _. ended _ _ r) u)
+  up_to_after s h q late at rs (Detach k) (Closed j grant n) was u = granted _ _ false grant.count _ (updated _ _ s.first k after_end rs (λ r _. ended _ _ r) u)
   up_to_after s h q late at rs (Fill claimed) (Granted grant) was u = granted _ _ claimed grant.count rs u
+  up_to_after s h q late at rs Ask (Granted grant) was u = granted _ _ false grant.count rs u
   up_to_after s h q late at rs Claim (answers.Claimed (Some k)) was u = updated _ _ s.first k (at_place Claimed) rs (placed _ _ Claimed refl) u
   up_to_after s h q late at rs (Opened k c) (Entered j n) was u =
       updated _ _ s.first k (λ r. entry c (max late at) (max late at) q) rs (λ r _. entered_now (max late at) (max late at) q c (omega arith)) u
@@ -95,11 +98,13 @@ module _ {C : Type 0} where
   up_to_after s h q late at rs (Failed k) GivenBack was u = updated _ _ s.first k after_end rs (λ r _. ended _ _ r) u
   up_to_after s h q late at rs (Add c broken) (Added k n) was u = appended _ _ rs (entry c (max late at) (max late at) q) u (entered_now (max late at) (max late at) q c (omega arith))
   up_to_after s h q late at rs Reap (Reaped closed by_idle by_life grant) was u = granted _ _ false grant.count _ (all_ended _ _ s.first (reaped s q (max late at) rs) rs u)
+  up_to_after s h q late at rs Retire (Reaped closed by_idle by_life grant) was u = granted _ _ false grant.count _ (all_ended _ _ s.first (reaped (retiring s) q (max late at) rs) rs u)
   up_to_after s h q late at rs Leave (Left n) was u = last (eqb h 1)
     where
       last : (t : Bool) → AreUpTo (max late at) (suc q) (cond t (map (after_end_where is_left) rs) rs)
       last true = swept _ _ is_left rs u
       last false = u
+  up_to_after s h q late at rs Close (Left n) was u = swept _ _ is_left rs u
   up_to_after s h q late at rs _ _ was u = u
 
   pub up_to_latest : (l : Ledger C) → AreUpTo (latest l) (position l) (records l)

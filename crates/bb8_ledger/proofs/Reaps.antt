@@ -118,7 +118,7 @@ module _ {C : Type 0} where
       (λ l at e h before is. let was = h before is in (none_later (start l) (position l) (latest l) (records l) (entered_before l) was.0, was.1))
       (λ l at e a legal f row h. row_reaped l at e a row)
 
-  row_once : (l : Ledger C) (at : ℕ) (e : Act C) (a : Answer) → IsLegal l → Row l at e a → ReapsOnce l at a
+  row_once : (l : Ledger C) (at : ℕ) (e : Act C) (a : Answer) → IsLegal l → Row l at e a → ReapsOnce l at e a
   row_once l at _ _ legal (reaps {closed} {grant} open_now closed_is by_idle_is by_life_is want) = λ before is still.
       let was = all_reaped l legal before is in
       let none : length (reaped_at l at) ≡ 0 =

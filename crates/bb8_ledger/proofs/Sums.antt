@@ -1,7 +1,8 @@
 -- What each row of the step table does to the sizes, the numbers and the statistics.
-use Rattle.bb8_ledger.proofs.Words.{⊤, ◌≡◌, ◌⊎◌, ℕ, ◌+◌, ◌-◌, ◌<◌, ◌≤◌, min, Bool, zero, suc, true, false, not, ltb, eqb, ◌&&◌, ◌||◌, List, Option, Some, None, is_some, refl, ap, arith, length-append, Grant, Guarded, Held, Standing, Settings, Numbered, one, due, Act, Try, CheckedOk, GiveUp, Reason, TimedOut, Cancelled, Answer, Getting, GetPlace, Waiting, gets_stand, is_unnotified, is_notified, Closed, GaveUp, Kept, cond, oldest_waiter, Entered, Reaped, Unfit, Ledger, Later, start, handles, idle, idle_count, first_idle, unnotified, notified, conns, approved, conns_of, approved_of, alive, expires, waited_since, started, direct, waited, timed_out, cancelled, created, broken, expired, invalid, idled_out, get_of, Row, begins, waits_on, serves, takes_out, waits, checks, check_fails, gives_up, gives_up_kept, gives_up_closed, keeps, returns_closed, fills, claims, opens, opens_late, fails, adds, reaps, joins, leaves, IsWant, IsLegal, fits, outlived_at, idled_at, GivesNext, NeverGivesAgain, numbers_given, gets_given, lost, and_right, nat_tests}
-use Rattle.bb8_ledger.specs.Handed.{told_by, brought_by, waiters, unasked, closes_told, places_lost}
-use Rattle.bb8_ledger.proofs.Effects.{each_legal, returns_turn, closes_turn, opens_turn, ends_turn, idle_turns, unclaimed_turns, stays_sized, turned_sized, adds_sized, granted_sized, reaped_sized, granted_reaped, left_sized}
+use Rattle.bb8_ledger.proofs.Words.{⊤, ◌≡◌, ◌⊎◌, ℕ, ◌+◌, ◌-◌, ◌<◌, ◌≤◌, min, Bool, zero, suc, true, false, not, ltb, eqb, ◌&&◌, ◌||◌, List, Option, Some, None, is_some, refl, ap, inl, inr, arith, length-append, Grant, Guarded, Held, Standing, Settings, Numbered, one, due, Act, Try, CheckedOk, GiveUp, Reason, TimedOut, Cancelled, Answer, Getting, GetPlace, Waiting, gets_stand, is_unnotified, is_notified, Closed, GaveUp, Kept, cond, oldest_waiter, Entered, Reaped, Unfit, Ledger, Later, start, handles, idle, idle_count, first_idle, unnotified, notified, conns, approved, conns_of, approved_of, alive, expires, waited_since, started, direct, waited, timed_out, cancelled, created, broken, expired, invalid, idled_out, retired, closed_retired, detached, get_of, Row, begins, waits_on, serves, takes_out, waits, checks, check_fails, gives_up, gives_up_kept, gives_up_closed, keeps, returns_closed, detaches, fills, asks_for, unprovided, claims, opens, opens_late, fails, adds, reaps, retires, joins, leaves, shuts, IsWant, IsLegal, fits, outlived_at, idled_at, GivesNext, NeverGivesAgain, numbers_given, gets_given, lost, and_right, nat_tests, is_doubtful}
+use Rattle.bb8_types.proofs.Numbered as numbered
+use Rattle.bb8_ledger.specs.Handed.{told_by, brought_by, waiters, unasked, missed, closes_told, places_lost}
+use Rattle.bb8_ledger.proofs.Effects.{each_legal, returns_turn, closes_turn, opens_turn, ends_turn, idle_turns, unclaimed_turns, stays_sized, turned_sized, adds_sized, granted_sized, reaped_sized, retired_sized, granted_reaped, left_sized, shut_sized}
 use Rattle.bb8_ledger.proofs.GetEffects.{trier_leaves, trier_holds, holder_ends, holder_turns, left_sums, left_told, begun_sums, waits_on_sums, waits_sums, told_sums, given_up_sums}
 use Rattle.bb8_ledger.proofs.Facts.{idle_tally, none_first}
 use Rattle.bb8_ledger.proofs.Wants.{due_or_none}
@@ -23,10 +24,11 @@ entered_by _ = 0
 pub due_few : (config : Settings) (handles taken asked : ℕ) → due config handles taken asked ≤ config.max_size - taken
 due_few config handles taken asked = grind arith
 
-one_of : (b x : Bool) → one b + one (not b && x) ≤ 1
-one_of true x = omega arith
-one_of false true = omega arith
-one_of false false = omega arith
+one_of : (b r x : Bool) → one b + one (not b && r) + one (not b && (not r && x)) ≤ 1
+one_of true r x = omega arith
+one_of false true x = omega arith
+one_of false false true = omega arith
+one_of false false false = omega arith
 
 -- what is kept is kept while a handle is alive
 kept_open : (broken expired : Bool) (handles : ℕ) → (broken || (expired || eqb handles 0)) ≡ false → 0 < handles
@@ -43,6 +45,11 @@ either_one false = refl
 -- one is asked for, or there are enough
 one_or_enough : (have need : ℕ) → (one (ltb have need) ≡ 1) ⊎ (need ≤ have)
 one_or_enough have need = grind arith
+
+-- where there is none it is this, and where there is one it is that
+none_or_some : (n this that : ℕ) → ((n ≡ 0) × (cond (eqb n 0) this that ≡ this)) ⊎ ((0 < n) × (cond (eqb n 0) this that ≡ that))
+none_or_some zero this that = inl (refl, refl)
+none_or_some (suc n) this that = inr (omega arith, ap (λ (b : Bool). cond b this that) (numbered.ne_test (suc n) 0 (λ e. omega arith)))
 
 -- a handle is alive
 is_open : (n : ℕ) → ltb 0 n ≡ true → 0 < n
@@ -87,8 +94,9 @@ module _ {C : Type 0} where
   gave_up l at g TimedOut held broken _ off = omega arith
   gave_up l at g Cancelled held broken _ off = omega arith
 
-  -- While somebody waits unnotified, the idle ones do not outnumber the notified ones; while a handle is alive, the unnotified ones do not
-  -- outnumber the open approvals, or what could still serve is promised, but for what was lost; while none is, nothing is idle.
+  -- While somebody waits unnotified, the idle ones do not outnumber the notified ones; while a
+  -- handle is alive, the unnotified ones do not outnumber the open approvals, or what could still
+  -- serve is promised, but for what was lost; while none is, nothing is idle.
   pub record Serves (l : Ledger C) : Type 0 where
     pub served : min (unnotified l) (idle_count l - notified l) ≡ 0
     pub promised : min (handles l) (min (unnotified l - (approved l + lost l)) ((start l).config.max_size - (conns l + approved l) + idle_count l - (notified l + lost l))) ≡ 0
@@ -103,13 +111,14 @@ module _ {C : Type 0} where
   abbrev pub IsMet : Ledger C → Act C → Type 0
   IsMet l e = min (waiters l) (min (idle_count l) (1 - notified_in l e)) ≡ 0
 
-  -- no more are notified, or have waited anew, than closes notified a get, but for one where a connection is idle
+  -- no more are notified, or have waited anew, than closes notified a get, but for one where a
+  -- connection is idle
   abbrev pub LosesFew : Ledger C → Type 0
   LosesFew l = notified l + places_lost l ≤ closes_told l + min 1 (min (notified l) (idle_count l))
 
   -- who waits is provided for, as `IsProvided` says
   abbrev pub Provides : Ledger C → Type 0
-  Provides l = min (handles l) (min (waiters l - (approved l + idle_count l + lost l)) ((start l).config.max_size - (conns l + approved l + lost l + unasked l))) ≡ 0
+  Provides l = min (handles l) (min (waiters l - (approved l + idle_count l + missed l)) ((start l).config.max_size - (conns l + approved l + missed l + unasked l))) ≡ 0
 
   -- where a get waits unnotified, one is first
   some_told : (l : Ledger C) (n : Option ℕ) → n ≡ oldest_waiter l → min 1 (unnotified l) ≤ one (is_some n)
@@ -118,15 +127,16 @@ module _ {C : Type 0} where
 
   -- ---- the sums of a row
 
-  -- An answer gives the next numbers, the size is kept, each connection that ends is counted as one that stood there, and each get that
-  -- began is answered once or alive.
+  -- An answer gives the next numbers, the size is kept, each connection that ends is counted as one
+  -- that stood there, and each get that began is answered once or alive.
   pub record Sums (l : Ledger C) (at : ℕ) (e : Act C) (a : Answer) : Type 0 where
     pub gives : GivesNext l at e a
     pub size : conns l + approved l ≤ (start l).config.max_size → conns (Later l at e a) + approved (Later l at e a) ≤ (start l).config.max_size
     pub all_few : conns (Later l at e a) + approved (Later l at e a) + ended_by a ≤ conns l + approved l + numbers_given a
     pub approved_few : approved (Later l at e a) + entered_by a ≤ approved l + numbers_given a
     pub created_are : created (Later l at e a) ≡ created l + entered_by a
-    pub closed_few : broken (Later l at e a) + expired (Later l at e a) ≤ broken l + expired l + ended_by a
+    pub closed_few : broken (Later l at e a) + closed_retired (Later l at e a) + expired (Later l at e a) + detached (Later l at e a)
+        ≤ broken l + closed_retired l + expired l + detached l + ended_by a
     pub invalid_few : invalid (Later l at e a) + idled_out (Later l at e a) ≤ invalid l + idled_out l + ended_by a
     pub started_are : started (Later l at e a) ≡ started l + gets_given a
     pub answered_are : direct (Later l at e a) + waited (Later l at e a) + timed_out (Later l at e a) + cancelled (Later l at e a) + alive
@@ -184,13 +194,13 @@ module _ {C : Type 0} where
         some_told l n is,
         one_if_some (waiters l),
         ap one t.1,
-        one_of b (expires l at k),
+        one_of b (ltb k (retired l)) (expires l at k),
       )
   row_sums l at _ _ legal f (gives_up {g} {why} {broken} {n} is) =
       omega (arith, given_up_sums l g n (and_right (is_some (get_of l g)) _ f).0 is, gave_up l at g why None broken (GaveUp n) (λ e. cc))
   row_sums l at _ _ legal f (gives_up_kept {g} {k} {why} {c} {broken = b} {n} holds_it keep is) =
       let t = holder_ends l g k holds_it in
-      omega (arith, kept_open b (expires l at k) (handles l) keep, turned_sized (hands_in_turn l at g k c legal holds_it), left_sums t.0, left_told t.0 n is, some_told l n is, ap one t.1, gave_up l at g why (Some c) b (Kept k n) (λ e. cc))
+      omega (arith, kept_open (is_doubtful (start l).config b) (expires l at k) (handles l) keep, turned_sized (hands_in_turn l at g k c legal holds_it), left_sums t.0, left_told t.0 n is, some_told l n is, ap one t.1, gave_up l at g why (Some c) b (Kept k n) (λ e. cc))
   row_sums l at _ _ legal f (gives_up_closed {g} {k} {why} {c} {broken = b} {grant} {n} holds_it shut want is) =
       let z = turned_sized (drops_turn l g k legal holds_it) in
       let t = holder_ends l g k holds_it in
@@ -204,14 +214,25 @@ module _ {C : Type 0} where
         some_told l n is,
         one_if_some (waiters l),
         ap one t.1,
-        one_of b (expires l at k),
+        one_of (is_doubtful (start l).config b) (ltb k (retired l)) (expires l at k),
         gave_up l at g why (Some c) b (Closed k grant n) (λ e. cc),
       )
   row_sums l at _ _ legal f (keeps {k} {c} {broken = b} {n} keep is) = omega (arith, kept_open b (expires l at k) (handles l) keep, turned_sized (returns_turn l at k c f), told_sums l n is, some_told l n is)
   row_sums l at _ _ legal f (returns_closed {k} {c} {broken = b} {grant} {n} shut want is) =
       let z = turned_sized (closes_turn l k f) in
-      omega (arith, z, granted_sized false grant.count z, wanted_few l _ grant want, told_sums l n is, some_told l n is, one_if_some (waiters l), one_of b (expires l at k))
+      omega (arith, z, granted_sized false grant.count z, wanted_few l _ grant want, told_sums l n is, some_told l n is, one_if_some (waiters l), one_of b (ltb k (retired l)) (expires l at k))
+  row_sums l at _ _ legal f (detaches {k} {grant} {n} want is) =
+      let z = turned_sized (closes_turn l k f) in
+      omega (arith, z, granted_sized false grant.count z, wanted_few l _ grant want, told_sums l n is, some_told l n is, one_if_some (waiters l))
   row_sums l at _ _ legal f (fills {claimed} {grant} want) = omega (arith, granted_sized claimed grant.count (stays_sized l), wanted_few l _ grant want)
+  row_sums l at _ _ legal f (asks_for {grant} granted) = omega (
+    arith,
+    granted_sized false grant.count (stays_sized l),
+    due_few (start l).config (handles l) (conns l + approved l) (unprovided l),
+    due_or_none (start l).config (handles l) (conns l + approved l) (unprovided l),
+    none_or_some (notified l) grant.withheld (missed l),
+    none_or_some (notified l) 0 (unasked l),
+  )
   row_sums l at _ _ legal f (claims {k = Some k} open_now first) = omega (arith, turned_sized (unclaimed_turns l k first))
   row_sums l at _ _ legal f (opens {k} {c} {n} open_now is) = omega (arith, turned_sized (opens_turn l at k c f), told_sums l n is, some_told l n is)
   row_sums l at _ _ legal f (opens_late {k} none) = omega (arith, turned_sized (ends_turn l k f))
@@ -220,8 +241,12 @@ module _ {C : Type 0} where
   row_sums l at _ _ legal f (reaps {closed} {by_idle} {by_life} {grant} open_now closed_is by_idle_is by_life_is want) =
       let z = reaped_sized l at in
       omega (arith, z, granted_reaped grant.count z, wanted_few l _ grant want, length-append (outlived_at l at) (idled_at l at))
+  row_sums l at _ _ legal f (retires {closed} {grant} open_now closed_is want) =
+      let z = retired_sized l at in
+      omega (arith, z, granted_reaped grant.count z, wanted_few l _ grant want)
   row_sums l at _ _ legal f (joins few) = omega (arith, is_open (handles l) f)
   row_sums l at _ _ legal f (leaves {n} is) = omega (arith, left_sized l at n, (left_sized l at n).last)
+  row_sums l at _ _ legal f (shuts {n} is) = omega (arith, shut_sized l)
   row_sums l at _ _ legal f _ = omega arith
 
   -- ---- what they sum up to

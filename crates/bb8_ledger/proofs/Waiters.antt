@@ -1,4 +1,5 @@
--- What each change of the gets does to those who wait: how many they are, and in which order they wait.
+-- What each change of the gets does to those who wait: how many they are, and in which order they
+-- wait.
 use Rattle.bb8_ledger.proofs.Words.{◌≡◌, ne_eqb, eq-eqb, option_map, ◌≢◌, ◌⊎◌, ℕ, zero, suc, ◌+◌, ◌-◌, ◌<◌, ◌≤◌, min, Bool, true, false, cond, eqb, ◌&&◌, List, [], ◌∷◌, ◌++◌, length, Option, Some, None, is_some, slice_get, refl, sym, ap, ◌∙◌, arith, subst, inl, inr, GetPlace, Active, Holding, Getting, Numbered, at, update, numbers, in_order, tally, one, after_end, gets_stand, is_unnotified, is_notified, get_with_place, get_in_wait, unnotified_at, tally_gets, alive_of, new_get, get_at_place, at_wait, with_notice, change, Before, and_right, Waiting}
 use Rattle.bb8_types.proofs.Numbered as numbered
 
@@ -225,11 +226,13 @@ pub one_few : (b : Bool) → one b ≤ 1
 one_few true = omega arith
 one_few false = omega arith
 
--- a get that was notified waits since before this position, and one that was not since then at the earliest
+-- a get that was notified waits since before this position, and one that was not since then at the
+-- earliest
 abbrev pub Keeps : ℕ → Numbered Getting → Type 0
 Keeps turn a = (gets_stand is_notified a.standing ≡ true → a.position < turn) × (gets_stand is_unnotified a.standing ≡ true → turn ≤ a.position)
 
--- One position, no later than this one, parts the notified waiters from those that were not, of which no two wait since the same.
+-- One position, no later than this one, parts the notified waiters from those that were not, of
+-- which no two wait since the same.
 pub record InLine (first p : ℕ) (gs : List (Numbered Getting)) : Type 0 where
   pub turn : ℕ
   pub turn_few : turn ≤ p

@@ -1,5 +1,6 @@
 -- What is wanted is made good.
-use Rattle.bb8_ledger.proofs.Words.{◌≡◌, ◌⊎◌, ℕ, zero, suc, ◌+◌, ◌-◌, ◌<◌, ◌≤◌, min, Bool, false, cond, List, refl, ap, inl, inr, arith, unwrap_or, Grant, Held, Guarded, Standing, Settings, Act, Answer, Numbered, after_end, with_ended, Ledger, Later, start, records, handles, conns_of, approved_of, idle_of, at_place, with_approvals, reaped_at, Row, serves, takes_out, check_fails, gives_up_closed, returns_closed, fills, reaps, IsWant, IsLegal, with_record, due, MakesGood, AlwaysMakesGood}
+use Rattle.bb8_ledger.proofs.Words.{◌≡◌, ◌⊎◌, ℕ, zero, suc, ◌+◌, ◌-◌, ◌<◌, ◌≤◌, min, Bool, false, cond, List, refl, ap, inl, inr, arith, unwrap_or, Grant, Held, Guarded, Standing, Settings, Act, Ask, Answer, Granted, IsGranted, Numbered, after_end, with_ended, Ledger, Later, start, records, handles, next, peak, conns, approved, conns_of, approved_of, idle_of, at_place, with_approvals, reaped_at, Row, serves, takes_out, check_fails, gives_up_closed, returns_closed, detaches, fills, asks_for, unprovided, reaps, retires, retired_at, IsWant, IsLegal, with_record, due, MakesGood, AlwaysMakesGood}
+use Rattle.bb8_ledger.specs.Limits.{IsAskedFor}
 use Rattle.bb8_types.proofs.Numbered as numbered
 use Rattle.bb8_ledger.proofs.Effects.{each_legal, approves}
 
@@ -32,15 +33,24 @@ module _ {C : Type 0} where
       (with_approvals claimed g.count rs)) ⊎ (0 < g.withheld)
   want_made_good l rs claimed g want open_now = grind (arith, approves claimed g.count rs, made_good, due_open)
 
+  -- so once what waiters lack is granted
+  asked_good : (l : Ledger C) (at : ℕ) (g : Grant) → IsGranted (next l) (conns l + approved l) (peak l)
+      (due (start l).config (handles l) (conns l + approved l) (unprovided l)) g → IsAskedFor (Later l at Ask (Granted g)) g
+  asked_good l at g granted open_now = grind (arith, approves false g.count (records l), made_good, due_open)
+
   pub row_makes_good : (l : Ledger C) (at : ℕ) (e : Act C) (a : Answer) → Row l at e a → MakesGood (Later l at e a) e a
   row_makes_good l at _ _ (serves {k} {grant} not_waiting off first want) = want_made_good l (with_record l k (at_place Guarded)) false grant want
   row_makes_good l at _ _ (takes_out {g} {k} {grant} not_waiting on first want) = want_made_good l (with_record l k (at_place (Held g))) false grant want
   row_makes_good l at _ _ (check_fails {k} {grant} holds_it want is) = want_made_good l (with_record l k after_end) false grant want
   row_makes_good l at _ _ (gives_up_closed {k} {grant} holds_it shut want is) = want_made_good l (with_record l k after_end) false grant want
   row_makes_good l at _ _ (returns_closed {k} {grant} shut want is) = want_made_good l (with_record l k after_end) false grant want
+  row_makes_good l at _ _ (detaches {k} {grant} want is) = want_made_good l (with_record l k after_end) false grant want
   row_makes_good l at _ _ (fills {claimed} {grant} want) = want_made_good l (records l) claimed grant want
+  row_makes_good l at _ _ (asks_for {grant} granted) = asked_good l at grant granted
   row_makes_good l at _ _ (reaps {grant} open_now closed_is by_idle_is by_life_is want) =
       want_made_good l (with_ended (start l).first (reaped_at l at) (records l)) false grant want
+  row_makes_good l at _ _ (retires {grant} open_now closed_is want) =
+      want_made_good l (with_ended (start l).first (retired_at l at) (records l)) false grant want
   row_makes_good l at _ _ _ = tt
 
   pub makes_good : (l : Ledger C) → IsLegal l → AlwaysMakesGood l

@@ -1,13 +1,14 @@
--- Handing over: in which order gets are served, where the notified get that waits longest tries as soon as a connection is idle.
+-- Handing over: in which order gets are served, where the notified get that waits longest tries as
+-- soon as a connection is idle.
 use Rattle.std.specs.Prelude.{◌≡◌, ◌≢◌, ◌⊎◌, ◌+◌, ◌-◌, ◌<◌, ◌≤◌, ℕ, suc, true, Bool, ◌&&◌, cond, eqb, ltb, slice_get, Option, Some, None, is_some, ⊤}
 use Rattle.std.specs.Option.{IfSome}
 use Rattle.bb8_types.specs.declared.standing.Getting.{Getting}
 use Rattle.bb8_types.specs.Numbered.{Numbered, in_order, one}
 use Rattle.bb8_types.specs.Places.{gets_stand, is_notified, is_unnotified}
-use Rattle.bb8_ledger.specs.Acts.{Act, Try}
-use Rattle.bb8_ledger.specs.Answers.{Answer, Served, Taken, Waiting, Kept, Closed, GaveUp, Entered, Added, Unfit}
+use Rattle.bb8_ledger.specs.Acts.{Act, Try, Ask}
+use Rattle.bb8_ledger.specs.Answers.{Answer, Served, Taken, Waiting, Kept, Closed, GaveUp, Granted, Entered, Added, Unfit}
 use Rattle.bb8_ledger.specs.Ledger.{Ledger, Opening, Later, start, position, handles, conns, approved, gets, idle_count, unnotified, notified, get_of, numbered_get}
-use Rattle.bb8_ledger.specs.Limits.{lost, WaitsSince}
+use Rattle.bb8_ledger.specs.Limits.{lost, lost_by, WaitsSince}
 
 -- the get that an answer notifies
 abbrev pub told_by : Answer → Option ℕ
@@ -25,7 +26,8 @@ brought_by (Entered k n) = Some k
 brought_by (Added k n) = Some k
 brought_by _ = None
 
--- what the try of who was notified comes to: it goes out with the connection that was brought, and where none was brought it waits
+-- what the try of who was notified comes to: it goes out with the connection that was brought, and
+-- where none was brought it waits
 abbrev pub GoesWith : Option ℕ → Answer → Type 0
 GoesWith (Some k) (Served j grant) = j ≡ k
 GoesWith (Some k) (Taken j grant) = j ≡ k
@@ -66,7 +68,8 @@ module _ {C : Type 0} where
   abbrev pub due_try : Ledger C → Option ℕ
   due_try l = cond (eqb (idle_count l) 0) None (oldest_notified l)
 
-  -- A history that hands over: where a try is due, it comes next. Events that do not fit change nothing, and are not looked at.
+  -- A history that hands over: where a try is due, it comes next. Events that do not fit change
+  -- nothing, and are not looked at.
   abbrev pub HandsOver : Ledger C → Type 0
   HandsOver (Opening s) = ⊤
   HandsOver (Later l at e Unfit) = HandsOver l
@@ -76,8 +79,9 @@ module _ {C : Type 0} where
   abbrev pub IsFirst : Ledger C → ℕ → Type 0
   IsFirst l g = (h q : ℕ) → WaitsSince l h q → h ≢ g → (p : ℕ) × WaitsSince l g p × (p < q)
 
-  -- A try that goes out with a connection was of the first of those who wait, and went out with the connection that became idle just now,
-  -- or nobody waited; and a try waits only where nothing is idle.
+  -- A try that goes out with a connection was of the first of those who wait, and went out with the
+  -- connection that became idle just now, or nobody waited; and a try waits only where nothing is
+  -- idle.
   abbrev pub TriesInTurn : Ledger C → Act C → Answer → Type 0
   TriesInTurn l (Try g) (Served k grant) = IsFirst l g × (0 < waiters l → just_brought l ≡ Some k)
   TriesInTurn l (Try g) (Taken k grant) = IsFirst l g × (0 < waiters l → just_brought l ≡ Some k)
@@ -102,24 +106,35 @@ module _ {C : Type 0} where
   places_lost (Later l at (Try g) (Waiting grant)) = places_lost l + one (gets_stand is_notified (get_of l g))
   places_lost (Later l at e a) = places_lost l
 
-  -- how many closes, while somebody waited, no try has asked for since: a try that begins a wait asks for a connection
+  -- how many closes, while somebody waited, nobody has asked for since: a try that begins a wait
+  -- asks for a connection, and an ask that finds nobody notified asks for all
   abbrev pub unasked : Ledger C → ℕ
   unasked (Opening s) = 0
   unasked (Later l at e Unfit) = unasked l
   unasked (Later l at e (Closed k grant n)) = unasked l + one (ltb 0 (waiters l))
+  unasked (Later l at Ask (Granted grant)) = cond (eqb (notified l) 0) 0 (unasked l)
   unasked (Later l at (Try g) (Waiting grant)) = cond (gets_stand is_unnotified (get_of l g)) (unasked l) (unasked l - 1)
   unasked (Later l at e a) = unasked l
+
+  -- how many approvals were lost to those who wait since the latest ask that found nobody notified:
+  -- what that one withheld, and what was lost after it
+  abbrev pub missed : Ledger C → ℕ
+  missed (Opening s) = 0
+  missed (Later l at e Unfit) = missed l
+  missed (Later l at Ask (Granted grant)) = cond (eqb (notified l) 0) grant.withheld (missed l)
+  missed (Later l at e a) = missed l + lost_by a
 
   -- Where somebody waits, nothing is idle, but for one connection where a try is due.
   abbrev pub IsSettled : Ledger C → Type 0
   IsSettled l = (waiters l ≡ 0) ⊎ (idle_count l ≡ one (is_some (due_try l)))
 
-  -- While a handle is alive, each that waits has an open approval or an idle connection, or the size is reached; but for what was lost, and
-  -- for the closes that nobody asked for.
+  -- While a handle is alive, each that waits has an open approval or an idle connection, or the
+  -- size is reached; but for what was missed, and for the closes that nobody asked for.
   abbrev pub IsProvided : Ledger C → Type 0
-  IsProvided l = 0 < handles l → (waiters l ≤ approved l + idle_count l + lost l) ⊎ ((start l).config.max_size ≤ conns l + approved l + lost l + unasked l)
+  IsProvided l = 0 < handles l → (waiters l ≤ approved l + idle_count l + missed l) ⊎ ((start l).config.max_size ≤ conns l + approved l + missed l + unasked l)
 
-  -- the first position behind that since which the get waited that went out last, of those that had waited
+  -- the first position behind that since which the get waited that went out last, of those that had
+  -- waited
   abbrev pub served_up_to : Ledger C → ℕ
   served_up_to (Opening s) = 0
   served_up_to (Later l at e Unfit) = served_up_to l
@@ -127,12 +142,14 @@ module _ {C : Type 0} where
   served_up_to (Later l at (Try g) (Taken k grant)) = past (numbered_get l g) (served_up_to l)
   served_up_to (Later l at e a) = served_up_to l
 
-  -- All that wait do so since then at the earliest: so gets go out in the order in which their waits began.
+  -- All that wait do so since then at the earliest: so gets go out in the order in which their
+  -- waits began.
   abbrev pub AllWaitBehind : Ledger C → Type 0
   AllWaitBehind l = (g p : ℕ) → WaitsSince l g p → served_up_to l ≤ p
 
-  -- Who waits is served in order, where notifications are handed over: nothing stays idle while somebody waits, each try is in turn, and
-  -- closes alone cost places, one each at most, be it lost already or still kept by a get that is notified.
+  -- Who waits is served in order, where notifications are handed over: nothing stays idle while
+  -- somebody waits, each try is in turn, and closes alone cost places, one each at most, be it lost
+  -- already or still kept by a get that is notified.
   pub record KeepsOrder (l : Ledger C) : Type 0 where
     pub settled : IsSettled l
     pub provided : IsProvided l
@@ -141,20 +158,29 @@ module _ {C : Type 0} where
     pub few_lost : places_lost l ≤ closes_told l
     pub few_told : notified l + places_lost l ≤ closes_told l + one (is_some (due_try l))
 
-  -- A history in which each get that is notified tries at once, directly after the event that notified it.
+  -- A history in which each get that is notified tries at once, directly after the event that
+  -- notified it.
   abbrev pub TriesWhenTold : Ledger C → Type 0
   TriesWhenTold (Opening s) = ⊤
   TriesWhenTold (Later l at e Unfit) = TriesWhenTold l
   TriesWhenTold (Later l at e a) = TriesWhenTold l × IfSome (just_told l) (λ g. e ≡ Try g)
 
-  -- It hands over; nobody is notified but who was told just now; and where nobody was, each close was asked for.
+  -- A history in which each get that was notified has tried at once, the latest one, too.
+  abbrev pub IsPrompt : Ledger C → Type 0
+  IsPrompt l = TriesWhenTold l × (just_told l ≡ None)
+
+  -- It hands over; nobody is notified but who was told just now; and where nobody was, each close
+  -- was asked for. Each ask finds nobody notified, so what was missed is what was lost since the
+  -- latest one.
   pub record TriesAtOnce (l : Ledger C) : Type 0 where
     pub hands_over : HandsOver l
     pub few : notified l ≡ one (is_some (just_told l))
     pub told : IfSome (just_told l) (λ g. gets_stand is_notified (get_of l g) ≡ true)
     pub asked : just_told l ≡ None → unasked l ≡ 0
+    pub none_missed : missed l ≡ lost l
 
-  -- who waits is served in order, where the history hands over, and so where each get that is notified tries at once
+  -- who waits is served in order, where the history hands over, and so where each get that is
+  -- notified tries at once
   pub record IsOrderly (l : Ledger C) : Type 0 where
     pub handed : HandsOver l → KeepsOrder l
     pub at_once : TriesWhenTold l → TriesAtOnce l

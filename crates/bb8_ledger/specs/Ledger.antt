@@ -1,7 +1,8 @@
 -- The ledger of a pool: all that happened, and what follows from it.
--- Nothing is stored but the events with their answers: records and gets are what the events did, sizes are tallies, order is read from
--- positions, and peaks, handles and statistics are told over the whole history.
-use Rattle.std.specs.Prelude.{ℕ, zero, suc, ◌+◌, ◌-◌, ◌*◌, max, min, Bool, true, false, ◌&&◌, not, cond, eqb, List, [], ◌∷◌, ◌++◌, length, map, take, slice_get, Option, Some, None, is_some}
+-- Nothing is stored but the events with their answers: records and gets are what the events did,
+-- sizes are tallies, order is read from positions, and peaks, handles and statistics are told over
+-- the whole history.
+use Rattle.std.specs.Prelude.{ℕ, zero, suc, ◌+◌, ◌-◌, ◌*◌, max, min, Bool, true, false, ◌&&◌, ◌||◌, not, cond, eqb, List, [], ◌∷◌, ◌++◌, length, map, take, slice_get, Option, Some, None, is_some, ltb}
 use Rattle.std.specs.Option.{option_map, option_and_then, unwrap_or}
 use Rattle.bb8_types.specs.declared.standing.Place.{Place}
 use Rattle.bb8_types.specs.declared.standing.Place.TheVariants.{Unclaimed, Claimed, Idle, Held, Guarded}
@@ -11,11 +12,11 @@ use Rattle.bb8_types.specs.declared.standing.GetPlace.TheVariants.{Active, Waiti
 use Rattle.bb8_types.specs.declared.standing.Getting.{Getting}
 use Rattle.bb8_types.specs.Settings.{Settings}
 use Rattle.bb8_types.specs.Figures.{Counts, Figures}
-use Rattle.bb8_ledger.specs.Acts.{Act, Begin, Try, CheckedOk, CheckedErr, GiveUp, PutBack, Fill, Claim, Opened, Failed, Add, Reap, Leave, TimedOut, Cancelled, get_in, says_broken}
+use Rattle.bb8_ledger.specs.Acts.{Act, Begin, Try, CheckedOk, CheckedErr, GiveUp, PutBack, Detach, Fill, Ask, Claim, Opened, Failed, Add, Reap, Retire, Leave, Close, TimedOut, Cancelled, get_in, says_broken}
 use Rattle.bb8_ledger.specs.Answers.{Answer, Begun, Served, Taken, Kept, Closed, GaveUp, Granted, Entered, Late, GivenBack, Added, Reaped, Joined, Left, Unfit}
 use Rattle.bb8_ledger.specs.Answers as answers
 use Rattle.bb8_types.specs.Numbered.{Numbered, at, update, numbers, in_order, tally, one, standing_at, after_end, after_end_where}
-use Rattle.bb8_types.specs.Places.{is_conn, is_unclaimed, is_idle, is_approval, is_out, stands, is_unnotified, is_notified, gets_stand, first_wait_of, is_expired, micros_since, idles_out, lives_out, is_left, with_place, birth_in, get_with_place, get_in_wait, first_of}
+use Rattle.bb8_types.specs.Places.{is_conn, is_unclaimed, is_idle, is_approval, is_out, stands, is_unnotified, is_notified, gets_stand, first_wait_of, is_expired, micros_since, idles_out, lives_out, is_left, with_place, birth_in, entered_in, is_checked, get_with_place, get_in_wait, first_of}
 use Rattle.bb8_types.specs.Bounds.{most_micros}
 
 -- What a pool begins with.
@@ -30,6 +31,10 @@ pub data Ledger (C : Type 0) : Type 0 where
   Later : Ledger C → ℕ → Act C → Answer → Ledger C
 
 -- ---- what events do to the records and the gets
+
+-- what a retire holds to: each idle connection has lived too long
+abbrev pub retiring : Start → Start
+retiring s = record s { config = record s.config { max_lifetime = Some 0 } }
 
 -- a new approval, claimed or not
 abbrev pub approval : {C : Type 0} → Bool → Numbered (Standing C)
@@ -86,17 +91,19 @@ module _ {C : Type 0} where
   abbrev pub over_idle_at : Settings → ℕ → ℕ → Numbered (Standing C) → Bool
   over_idle_at config now p r = idles_out config now r.standing && eqb r.position p
 
-  -- the numbers of those that are idle too long, the one that entered first before the others, but no more than there are idle ones
-  -- beyond min_idle
+  -- the numbers of those that are idle too long, the one that entered first before the others, but
+  -- no more than there are idle ones beyond min_idle
   abbrev pub idled : Start → ℕ → ℕ → List (Numbered (Standing C)) → List ℕ
   idled s position now rs = take (idle_of rs - unwrap_or s.config.min_idle 0) (in_order (over_idle_at s.config now) s.first rs position)
 
-  -- Reaped: the numbers of the records that a reap at a position and a moment ends, which are the idle ones that live too long, and, once
-  -- those have ended, those that are idle too long. This is the one place of that rule.
+  -- Reaped: the numbers of the records that a reap at a position and a moment ends, which are the
+  -- idle ones that live too long, and, once those have ended, those that are idle too long. This is
+  -- the one place of that rule.
   abbrev pub reaped : Start → ℕ → ℕ → List (Numbered (Standing C)) → List ℕ
   reaped s position now rs = outlived s now rs ++ idled s position now (with_ended s.first (outlived s now rs) rs)
 
-  -- the records after an event: what the pool began with, its handles, the position of the event and its effective moment are given
+  -- the records after an event: what the pool began with, its handles, the position of the event
+  -- and its effective moment are given
   abbrev pub records_after : Start → ℕ → ℕ → ℕ → List (Numbered (Standing C)) → Act C → Answer → List (Numbered (Standing C))
   records_after s handles position now rs e Unfit = rs
   records_after s handles position now rs (Try g) (Served k grant) = with_approvals false grant.count (update s.first k (at_place Guarded) rs)
@@ -108,14 +115,18 @@ module _ {C : Type 0} where
   records_after s handles position now rs (GiveUp g why held broken) (Closed k grant n) = with_approvals false grant.count (update s.first k after_end rs)
   records_after s handles position now rs (PutBack k c broken) (Kept m n) = update s.first k (at_entry c now position) rs
   records_after s handles position now rs (PutBack k c broken) (Closed m grant n) = with_approvals false grant.count (update s.first k after_end rs)
+  records_after s handles position now rs (Detach k) (Closed m grant n) = with_approvals false grant.count (update s.first k after_end rs)
   records_after s handles position now rs (Fill claimed) (Granted grant) = with_approvals claimed grant.count rs
+  records_after s handles position now rs Ask (Granted grant) = with_approvals false grant.count rs
   records_after s handles position now rs Claim (answers.Claimed (Some k)) = update s.first k (at_place Claimed) rs
   records_after s handles position now rs (Opened k c) (Entered m n) = update s.first k (λ r. entry c now now position) rs
   records_after s handles position now rs (Opened k c) (Late m) = update s.first k after_end rs
   records_after s handles position now rs (Failed k) GivenBack = update s.first k after_end rs
   records_after s handles position now rs (Add c broken) (Added k n) = rs ++ entry c now now position ∷ []
   records_after s handles position now rs Reap (Reaped closed by_idle by_life grant) = with_approvals false grant.count (with_ended s.first (reaped s position now rs) rs)
+  records_after s handles position now rs Retire (Reaped closed by_idle by_life grant) = with_approvals false grant.count (with_ended s.first (reaped (retiring s) position now rs) rs)
   records_after s handles position now rs Leave (Left c) = cond (eqb handles 1) (map (after_end_where is_left) rs) rs
+  records_after s handles position now rs Close (Left c) = map (after_end_where is_left) rs
   records_after s handles position now rs _ _ = rs
 
 -- a get at another place; first wait and position stay
@@ -145,6 +156,7 @@ gets_after s position now gs (GiveUp g why held broken) (Kept k n) = with_notice
 gets_after s position now gs (GiveUp g why held broken) (Closed k grant n) = with_notice s.first_get n (update s.first_get g after_end gs)
 gets_after s position now gs (PutBack k c broken) (Kept m n) = with_notice s.first_get n gs
 gets_after s position now gs (PutBack k c broken) (Closed m grant n) = with_notice s.first_get n gs
+gets_after s position now gs (Detach k) (Closed m grant n) = with_notice s.first_get n gs
 gets_after s position now gs (Opened k c) (Entered m n) = with_notice s.first_get n gs
 gets_after s position now gs (Add c broken) (Added k n) = with_notice s.first_get n gs
 gets_after s position now gs _ _ = gs
@@ -156,11 +168,12 @@ abbrev pub moment_after : ℕ → ℕ → Answer → ℕ
 moment_after latest at Unfit = latest
 moment_after latest at _ = max latest at
 
--- the handles after an event
-abbrev pub handles_after : ℕ → Answer → ℕ
-handles_after handles Joined = handles + 1
-handles_after handles (Left c) = handles - 1
-handles_after handles _ = handles
+-- the handles after an event: a close takes all of them
+abbrev pub handles_after : {C : Type 0} → ℕ → Act C → Answer → ℕ
+handles_after handles e Joined = handles + 1
+handles_after handles Close (Left c) = 0
+handles_after handles e (Left c) = handles - 1
+handles_after handles e _ = handles
 
 module _ {C : Type 0} where
   -- what the pool began with
@@ -181,7 +194,7 @@ module _ {C : Type 0} where
   -- the handles that are alive: one is there from the beginning
   abbrev pub handles : Ledger C → ℕ
   handles (Opening s) = 1
-  handles (Later l at e a) = handles_after (handles l) a
+  handles (Later l at e a) = handles_after (handles l) e a
 
   -- all connections and approvals there ever were, in a row of numbers
   abbrev pub records : Ledger C → List (Numbered (Standing C))
@@ -290,9 +303,21 @@ module _ {C : Type 0} where
 
   -- ---- statistics: sums over the events and their answers, each read with the ledger before it
 
-  -- whether a connection has lived too long at a moment
+  -- the number that was next at the latest retire, or 0: all connections and approvals are retired
+  -- that had a number then
+  abbrev pub retired : Ledger C → ℕ
+  retired (Opening s) = 0
+  retired (Later l at e Unfit) = retired l
+  retired (Later l at Retire a) = next l
+  retired (Later l at e a) = retired l
+
+  -- whether a connection has lived too long at a moment, or was retired
   abbrev pub expires : Ledger C → ℕ → ℕ → Bool
-  expires l at k = is_expired (start l).config.max_lifetime (max (latest l) at) (birth_in (record_of l k))
+  expires l at k = is_expired (start l).config.max_lifetime (max (latest l) at) (birth_in (record_of l k)) || ltb k (retired l)
+
+  -- whether a connection that goes out at a moment is checked before it is served
+  abbrev pub asks_check : Ledger C → ℕ → ℕ → Bool
+  asks_check l at k = is_checked (start l).config (max (latest l) at) (entered_in (record_of l k))
 
   -- when the get of an event first waited
   abbrev pub waited_since : Ledger C → Act C → Option ℕ
@@ -351,7 +376,7 @@ module _ {C : Type 0} where
   -- connections that were closed as broken
   abbrev pub broken : Ledger C → ℕ
   broken (Opening s) = 0
-  broken (Later l at e (Closed k grant n)) = broken l + one (says_broken e)
+  broken (Later l at e (Closed k grant n)) = broken l + one (says_broken (start l).config e)
   broken (Later l at e a) = broken l
 
   -- closed by a failed check
@@ -361,12 +386,29 @@ module _ {C : Type 0} where
   invalid (Later l at (CheckedErr g broken) a) = invalid l + 1
   invalid (Later l at e a) = invalid l
 
-  -- closed because it lived too long, and was not said to be broken
+  -- closed because it lived too long, and was neither said to be broken nor retired
   abbrev pub expired : Ledger C → ℕ
   expired (Opening s) = 0
-  expired (Later l at e (Closed k grant n)) = expired l + one (not (says_broken e) && expires l at k)
   expired (Later l at e (Reaped closed by_idle by_life grant)) = expired l + by_life
+  expired (Later l at (Detach m) (Closed k grant n)) = expired l
+  expired (Later l at e (Closed k grant n)) = expired l + one (not (says_broken (start l).config e) && (not (ltb k (retired l)) && expires l at k))
   expired (Later l at e a) = expired l
+
+  -- closed because it was retired, and not said to be broken
+  abbrev pub closed_retired : Ledger C → ℕ
+  closed_retired (Opening s) = 0
+  closed_retired (Later l at e Unfit) = closed_retired l
+  closed_retired (Later l at Retire (Reaped closed by_idle by_life grant)) = closed_retired l + closed
+  closed_retired (Later l at (Detach m) (Closed k grant n)) = closed_retired l
+  closed_retired (Later l at e (Closed k grant n)) = closed_retired l + one (not (says_broken (start l).config e) && ltb k (retired l))
+  closed_retired (Later l at e a) = closed_retired l
+
+  -- left the pool for good
+  abbrev pub detached : Ledger C → ℕ
+  detached (Opening s) = 0
+  detached (Later l at e Unfit) = detached l
+  detached (Later l at (Detach k) a) = detached l + 1
+  detached (Later l at e a) = detached l
 
   -- closed because it was idle too long
   abbrev pub idled_out : Ledger C → ℕ
@@ -388,6 +430,8 @@ module _ {C : Type 0} where
     invalid = invalid l;
     max_lifetime = expired l;
     idle_timeout = idled_out l;
+    retired = closed_retired l;
+    detached = detached l;
   }
 
   -- what the pool tells of itself

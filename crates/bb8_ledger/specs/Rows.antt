@@ -8,7 +8,8 @@ use Rattle.bb8_ledger.specs.Acts.{Act, PutBack, Opened, Add}
 use Rattle.bb8_ledger.specs.Answers.{Answer}
 use Rattle.bb8_ledger.specs.Ledger.{Ledger, Later, figures, opening_with}
 use Rattle.bb8_ledger.specs.Table.{Allowed}
-use Rattle.bb8_ledger.specs.Handed.{HandsOver, places_lost, unasked}
+use Rattle.bb8_ledger.specs.Limits.{lost}
+use Rattle.bb8_ledger.specs.Handed.{HandsOver, places_lost, unasked, missed}
 use Rattle.bb8_ledger.specs.Waits.{wait, IsMostWaits}
 
 -- ---- what a row says
@@ -29,8 +30,8 @@ abbrev pub AreAllowed : Ledger ℕ → List Told → Type 0
 AreAllowed l [] = Unit {0}
 AreAllowed l (t ∷ told) = Allowed l t.at t.act t.answer × AreAllowed (Later l t.at t.act t.answer) told
 
--- A worked row: from the empty ledger of a lawful configuration, with the first numbers given, the answers are allowed, and the state
--- that is shown at the end has these figures.
+-- A worked row: from the empty ledger of a lawful configuration, with the first numbers given, the
+-- answers are allowed, and the state that is shown at the end has these figures.
 pub record IsRow (config : Settings) (first first_get : ℕ) (told : List Told) (shown : Figures) : Type 0 where
   pub lawful : is_lawful config ≡ true
   pub allowed : AreAllowed (opening_with config first first_get) told
@@ -41,8 +42,8 @@ abbrev pub first_waits : ℕ → ℕ → List ℕ
 first_waits timeout zero = []
 first_waits timeout (suc n) = first_waits timeout n ++ wait timeout (suc n) ∷ []
 
--- The waits of a replenishing whose every connect fails at once, so that it makes one try more: the last wait, and it alone, ends after
--- the timeout, and most is the number of those before it.
+-- The waits of a replenishing whose every connect fails at once, so that it makes one try more: the
+-- last wait, and it alone, ends after the timeout, and most is the number of those before it.
 pub record IsBackOff (timeout : ℕ) (told : List ℕ) (most : ℕ) : Type 0 where
   pub first : first_waits timeout (suc most) ≡ told
   pub within : IsMostWaits timeout most
@@ -80,8 +81,17 @@ abbrev pub connections◌idle◌started◌direct◌waited◌timed_out◌cancelle
 connections c idle i started s direct d waited w timed_out t cancelled x wait_us u created n broken b invalid v lifetime l idle_timeout j = record {
   connections = c;
   idle = i;
-  counts = record { started = s; direct = d; waited = w; timed_out = t; cancelled = x; wait_time = 1000 * u; created = n; broken = b; invalid = v; max_lifetime = l; idle_timeout = j };
+  counts = record { started = s; direct = d; waited = w; timed_out = t; cancelled = x; wait_time = 1000 * u; created = n; broken = b; invalid = v; max_lifetime = l; idle_timeout = j; retired = 0; detached = 0 };
 }
+
+-- the same figures, with what a state prints after them where it is not 0
+infixl 69 ◌retired◌
+abbrev pub ◌retired◌ : Figures → ℕ → Figures
+◌retired◌ figures n = record figures { counts = record figures.counts { retired = n } }
+
+infixl 69 ◌detached◌
+abbrev pub ◌detached◌ : Figures → ℕ → Figures
+◌detached◌ figures n = record figures { counts = record figures.counts { detached = n } }
 
 -- ---- words for the configurations
 
@@ -91,9 +101,15 @@ unchecked max_size = record default_settings { max_size = max_size; test_on_chec
 
 -- ---- in which order gets are served in a row
 
--- a row of one connection that hands over: so often a get has waited anew, and each close was asked for
+-- a row of one connection that hands over: so often a get has waited anew, and each close was asked
+-- for
 abbrev pub HandsOverLosing : ℕ → List Told → Type 0
 HandsOverLosing lost told = let l : Ledger ℕ = after (opening_with (unchecked 1) 0 0) told in HandsOver l × (places_lost l ≡ lost) × (unasked l ≡ 0)
+
+-- a row of three connections that hands over: none is lost to those who wait since the latest ask,
+-- so many were missed, and each close was asked for
+abbrev pub HandsOverMissing : ℕ → List Told → Type 0
+HandsOverMissing missing told = let l : Ledger ℕ = after (opening_with (unchecked 3) 0 0) told in HandsOver l × (lost l ≡ 0) × (missed l ≡ missing) × (unasked l ≡ 0)
 
 -- a row of one connection that does not hand over
 abbrev pub IsOvertaking : List Told → Type 0

@@ -1,15 +1,15 @@
 -- The step table: which events fit, and which answers each may have.
-use Rattle.std.specs.Prelude.{◌≡◌, ◌≢◌, ℕ, ◌+◌, ◌<◌, ◌≤◌, max, Bool, true, false, ◌&&◌, ◌||◌, not, eqb, ltb, cond, Option, Some, None, is_some, slice_get, length, List}
+use Rattle.std.specs.Prelude.{◌≡◌, ◌≢◌, ℕ, ◌+◌, ◌-◌, ◌<◌, ◌≤◌, max, Bool, true, false, ◌&&◌, ◌||◌, not, eqb, ltb, cond, Option, Some, None, is_some, slice_get, length, List}
 use Rattle.std.specs.Bool.{MatchBool}
 use Rattle.bb8_types.specs.declared.grants.Grant.{Grant}
 use Rattle.bb8_types.specs.declared.standing.Standing.{Standing}
 use Rattle.bb8_types.specs.declared.standing.Place.TheVariants.{Guarded, Held}
 use Rattle.bb8_types.specs.Settings.{is_lawful}
 use Rattle.bb8_types.specs.Numbered.{Numbered, update, one, after_end}
-use Rattle.bb8_ledger.specs.Acts.{Act, Begin, Try, CheckedOk, CheckedErr, GiveUp, PutBack, Fill, Claim, Opened, Failed, Add, Reap, State, Join, Leave, Look, Reason}
+use Rattle.bb8_ledger.specs.Acts.{Act, Begin, Try, CheckedOk, CheckedErr, GiveUp, PutBack, Detach, Fill, Ask, Claim, Opened, Failed, Add, Reap, Retire, State, Join, Leave, Close, Look, Reason}
 use Rattle.bb8_ledger.specs.Answers.{Answer, Begun, Memory, Exhausted, Served, Taken, Waiting, Kept, Closed, GaveUp, Granted, Claimed, Ended, Entered, Late, GivenBack, Added, Broken, NoCapacity, Withheld, Reaped, Shown, Joined, Left, Looked, Unfit}
-use Rattle.bb8_ledger.specs.Ledger.{Ledger, Opening, Later, start, position, latest, records, handles, next, next_get, conns, approved, conns_of, approved_of, idle_of, alive, idle_count, first_idle, oldest_waiter, unclaimed, peak, get_peak, record_of, get_of, at_place, reaped, outlived, idled, with_ended, expires, figures}
-use Rattle.bb8_types.specs.Places.{stands, gets_stand, holds, is_claimed, is_guarded, is_unnotified, is_notified, is_trying}
+use Rattle.bb8_ledger.specs.Ledger.{Ledger, Opening, Later, start, position, latest, records, handles, next, next_get, conns, approved, conns_of, approved_of, idle_of, alive, unnotified, idle_count, first_idle, oldest_waiter, unclaimed, peak, get_peak, record_of, get_of, at_place, reaped, outlived, idled, retiring, with_ended, expires, asks_check, figures}
+use Rattle.bb8_types.specs.Places.{stands, gets_stand, holds, is_claimed, is_doubtful, is_guarded, is_unnotified, is_notified, is_trying}
 use Rattle.bb8_types.specs.Grants.{due, lacking, IsGranted, IsNoGrant}
 use Rattle.bb8_types.specs.Bounds.{end_of_numbers, most_handles}
 
@@ -26,15 +26,19 @@ module _ {C : Type 0} where
   fits l (CheckedErr g broken) = is_some (holds (get_of l g))
   fits l (GiveUp g why held broken) = is_some (get_of l g) && agree (is_some held) (is_some (holds (get_of l g)))
   fits l (PutBack k c broken) = stands is_guarded (record_of l k)
+  fits l (Detach k) = stands is_guarded (record_of l k)
   fits l (Fill claimed) = true
+  fits l Ask = true
   fits l Claim = true
   fits l (Opened a c) = stands is_claimed (record_of l a)
   fits l (Failed a) = stands is_claimed (record_of l a)
   fits l (Add c broken) = ltb 0 (handles l)
   fits l Reap = true
+  fits l Retire = true
   fits l State = true
   fits l Join = ltb 0 (handles l)
   fits l Leave = ltb 0 (handles l)
+  fits l Close = ltb 0 (handles l)
   fits l Look = true
 
   -- want: what is granted of the approvals that are lacking, once the records have changed to these
@@ -47,7 +51,8 @@ module _ {C : Type 0} where
   abbrev pub with_record : Ledger C → ℕ → (Numbered (Standing C) → Numbered (Standing C)) → List (Numbered (Standing C))
   with_record l k f = update (start l).first k f (records l)
 
-  -- return: whether a connection that comes back is closed, as it is broken, or has lived too long, or no handle is alive
+  -- return: whether a connection that comes back is closed, as it is broken, or has lived too long,
+  -- or no handle is alive
   abbrev pub closes : Ledger C → ℕ → ℕ → Bool → Bool
   closes l at k broken = broken || (expires l at k || eqb (handles l) 0)
 
@@ -63,6 +68,16 @@ module _ {C : Type 0} where
   abbrev pub idled_at : Ledger C → ℕ → List ℕ
   idled_at l at = idled (start l) (position l) (max (latest l) at) (with_ended (start l).first (outlived_at l at) (records l))
 
+  -- the numbers of the records that a retire ends: as a reap at which each idle one has lived too
+  -- long
+  abbrev pub retired_at : Ledger C → ℕ → List ℕ
+  retired_at l at = reaped (retiring (start l)) (position l) (max (latest l) at) (records l)
+
+  -- how many waiters that were not notified have no open approval: one that was notified tries by
+  -- itself, and asks for its own then
+  abbrev pub unprovided : Ledger C → ℕ
+  unprovided l = unnotified l - approved l
+
   -- how many idle records the leave of a handle ends
   abbrev pub leave_count : Ledger C → ℕ
   leave_count l = cond (eqb (handles l) 1) (idle_count l) 0
@@ -73,9 +88,9 @@ module _ {C : Type 0} where
     begin_refused : next_get l < end_of_numbers → alive l ≡ get_peak l → Row l at Begin Memory
     begin_exhausted : end_of_numbers ≤ next_get l → Row l at Begin Exhausted
     waits_on : {g : ℕ} {grant : Grant} → gets_stand is_unnotified (get_of l g) ≡ true → IsNoGrant (next l) grant → Row l at (Try g) (Waiting grant)
-    serves : {g k : ℕ} {grant : Grant} → gets_stand is_unnotified (get_of l g) ≡ false → (start l).config.test_on_check_out ≡ false
+    serves : {g k : ℕ} {grant : Grant} → gets_stand is_unnotified (get_of l g) ≡ false → asks_check l at k ≡ false
         → first_idle l ≡ Some k → IsWant l (with_record l k (at_place Guarded)) grant → Row l at (Try g) (Served k grant)
-    takes_out : {g k : ℕ} {grant : Grant} → gets_stand is_unnotified (get_of l g) ≡ false → (start l).config.test_on_check_out ≡ true
+    takes_out : {g k : ℕ} {grant : Grant} → gets_stand is_unnotified (get_of l g) ≡ false → asks_check l at k ≡ true
         → first_idle l ≡ Some k → IsWant l (with_record l k (at_place (Held g))) grant → Row l at (Try g) (Taken k grant)
     waits : {g : ℕ} {grant : Grant} → gets_stand is_unnotified (get_of l g) ≡ false → first_idle l ≡ None
         → IsGranted (next l) (conns l + approved l) (peak l)
@@ -86,14 +101,18 @@ module _ {C : Type 0} where
         → IsWant l (with_record l k after_end) grant → n ≡ oldest_waiter l → Row l at (CheckedErr g broken) (Closed k grant n)
     gives_up : {g : ℕ} {why : Reason} {broken : Bool} {n : Option ℕ} → n ≡ cond (gets_stand is_notified (get_of l g)) (oldest_waiter l) None → Row l at (GiveUp g why None broken) (GaveUp n)
     gives_up_kept : {g k : ℕ} {why : Reason} {c : C} {broken : Bool} {n : Option ℕ} → holds (get_of l g) ≡ Some k
-        → closes l at k broken ≡ false → n ≡ oldest_waiter l → Row l at (GiveUp g why (Some c) broken) (Kept k n)
+        → closes l at k (is_doubtful (start l).config broken) ≡ false → n ≡ oldest_waiter l
+        → Row l at (GiveUp g why (Some c) broken) (Kept k n)
     gives_up_closed : {g k : ℕ} {why : Reason} {c : C} {broken : Bool} {grant : Grant} {n : Option ℕ} → holds (get_of l g) ≡ Some k
-        → closes l at k broken ≡ true → IsWant l (with_record l k after_end) grant → n ≡ oldest_waiter l
+        → closes l at k (is_doubtful (start l).config broken) ≡ true → IsWant l (with_record l k after_end) grant → n ≡ oldest_waiter l
         → Row l at (GiveUp g why (Some c) broken) (Closed k grant n)
     keeps : {k : ℕ} {c : C} {broken : Bool} {n : Option ℕ} → closes l at k broken ≡ false → n ≡ oldest_waiter l → Row l at (PutBack k c broken) (Kept k n)
     returns_closed : {k : ℕ} {c : C} {broken : Bool} {grant : Grant} {n : Option ℕ} → closes l at k broken ≡ true
         → IsWant l (with_record l k after_end) grant → n ≡ oldest_waiter l → Row l at (PutBack k c broken) (Closed k grant n)
+    detaches : {k : ℕ} {grant : Grant} {n : Option ℕ} → IsWant l (with_record l k after_end) grant → n ≡ oldest_waiter l → Row l at (Detach k) (Closed k grant n)
     fills : {claimed : Bool} {grant : Grant} → IsWant l (records l) grant → Row l at (Fill claimed) (Granted grant)
+    asks_for : {grant : Grant} → IsGranted (next l) (conns l + approved l) (peak l)
+        (due (start l).config (handles l) (conns l + approved l) (unprovided l)) grant → Row l at Ask (Granted grant)
     claims : {k : Option ℕ} → 0 < handles l → slice_get (unclaimed l) 0 ≡ k → Row l at Claim (Claimed k)
     claim_ended : handles l ≡ 0 → Row l at Claim Ended
     opens : {k : ℕ} {c : C} {n : Option ℕ} → 0 < handles l → n ≡ oldest_waiter l → Row l at (Opened k c) (Entered k n)
@@ -109,10 +128,15 @@ module _ {C : Type 0} where
         → by_idle ≡ length (idled_at l at) → by_life ≡ length (outlived_at l at)
         → IsWant l (with_ended (start l).first (reaped_at l at) (records l)) grant
         → Row l at Reap (Reaped closed by_idle by_life grant)
+    retire_ended : handles l ≡ 0 → Row l at Retire Ended
+    retires : {closed : ℕ} {grant : Grant} → 0 < handles l → closed ≡ length (retired_at l at)
+        → IsWant l (with_ended (start l).first (retired_at l at) (records l)) grant
+        → Row l at Retire (Reaped closed 0 0 grant)
     shows : Row l at State (Shown (figures l))
     joins : handles l < most_handles → Row l at Join Joined
     join_exhausted : most_handles ≤ handles l → Row l at Join Exhausted
     leaves : {n : ℕ} → n ≡ leave_count l → Row l at Leave (Left n)
+    shuts : {n : ℕ} → n ≡ idle_count l → Row l at Close (Left n)
     looks : {m : ℕ} {open_now : Bool} → m ≡ max (latest l) at → open_now ≡ ltb 0 (handles l) → Row l at Look (Looked m open_now)
 
   -- Allowed answers: an event that fits has an answer of the table, and another one is Unfit.

@@ -1,7 +1,8 @@
 -- The waits of the back-off, in nanoseconds.
 use Rattle.std.specs.Prelude.{ℕ, zero, suc, ◌+◌, ◌*◌, ◌/◌, ◌^◌, ◌<◌, ◌≤◌, min}
 
--- how long a replenishing waits after its k-th failure, k from 1: half the timeout, or twice as long each time
+-- how long a replenishing waits after its k-th failure, k from 1: half the timeout, or twice as
+-- long each time
 abbrev pub wait : ℕ → ℕ → ℕ
 wait timeout k = min (timeout / 2) (200_000_000 * 2 ^ k)
 

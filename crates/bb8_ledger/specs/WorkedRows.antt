@@ -1,7 +1,7 @@
 -- The worked rows: what happens to a pool, line by line, with the answers that were worked out by hand, or that the original gave.
 -- Written by gate/ledger_rows from crates/bb8_rows/stdin.
 use Rattle.std.specs.Prelude.{true, false, List, [], ◌∷◌, Some, None}
-use Rattle.bb8_ledger.specs.Acts.{Begin, Try, CheckedOk, CheckedErr, GiveUp, PutBack, Fill, Claim, Failed, Add, Reap, Join, Leave, TimedOut, Cancelled}
+use Rattle.bb8_ledger.specs.Acts.{Begin, Try, CheckedOk, CheckedErr, GiveUp, PutBack, Detach, Fill, Ask, Claim, Failed, Add, Reap, Retire, Join, Leave, Close, TimedOut, Cancelled}
 use Rattle.bb8_ledger.specs.Answers.{Begun, Exhausted, Served, Taken, Waiting, Kept, Closed, GaveUp, Granted, Claimed, Ended, Entered, Late, GivenBack, Added, Broken, NoCapacity, Withheld, Reaped, Joined, Left, Unfit}
 use Rattle.bb8_ledger.specs.Rows.{Told, ◌▸◌⇒◌, grant◌at◌, opens, returns, adds}
 
@@ -410,6 +410,224 @@ expired_not_spared =
     0 ▸ adds 0 ⇒ Added 0 None
     ∷ 0 ▸ adds 1 ⇒ Added 1 None
     ∷ 1_000_000_000 ▸ Reap ⇒ Reaped 2 0 2 (grant 2 at 2)
+    ∷ []
+
+-- a connection idle for less than `test_after`, one second, goes out unchecked, and at the second it is checked
+abbrev pub checked_after_a_second : List Told
+checked_after_a_second =
+    0 ▸ adds 0 ⇒ Added 0 None
+    ∷ 0 ▸ Begin ⇒ Begun 0
+    ∷ 999_999_999 ▸ Try 0 ⇒ Served 0 (grant 0 at 1)
+    ∷ 2_000_000_000 ▸ returns 0 ⇒ Kept 0 None
+    ∷ 2_000_000_000 ▸ Begin ⇒ Begun 1
+    ∷ 3_000_000_000 ▸ Try 1 ⇒ Taken 0 (grant 0 at 1)
+    ∷ 3_000_000_000 ▸ CheckedOk 1 ⇒ Served 0 (grant 0 at 1)
+    ∷ []
+
+-- a get gives up in mid check: with `test_after` its connection counts as broken and is closed
+abbrev pub doubted_in_check : List Told
+doubted_in_check =
+    0 ▸ adds 0 ⇒ Added 0 None
+    ∷ 0 ▸ Begin ⇒ Begun 0
+    ∷ 1 ▸ Try 0 ⇒ Taken 0 (grant 0 at 1)
+    ∷ 1 ▸ Begin ⇒ Begun 1
+    ∷ 1 ▸ Try 1 ⇒ Waiting (grant 0 at 1)
+    ∷ 2 ▸ GiveUp 0 TimedOut (Some 0) false ⇒ Closed 0 (grant 0 at 1) (Some 1)
+    ∷ 2 ▸ Try 1 ⇒ Waiting (grant 1 at 1)
+    ∷ []
+
+-- idleness counts from the latest entry, by effective moments
+abbrev pub fresh_since_its_entry : List Told
+fresh_since_its_entry =
+    0 ▸ Begin ⇒ Begun 0
+    ∷ 0 ▸ Try 0 ⇒ Waiting (grant 1 at 0)
+    ∷ 0 ▸ Claim ⇒ Claimed (Some 0)
+    ∷ 100 ▸ opens 0 ⇒ Entered 0 (Some 0)
+    ∷ 109 ▸ Try 0 ⇒ Served 0 (grant 0 at 1)
+    ∷ 200 ▸ returns 0 ⇒ Kept 0 None
+    ∷ 200 ▸ Begin ⇒ Begun 1
+    ∷ 0 ▸ Try 1 ⇒ Served 0 (grant 0 at 1)
+    ∷ 150 ▸ returns 0 ⇒ Kept 0 None
+    ∷ 210 ▸ Begin ⇒ Begun 2
+    ∷ 210 ▸ Try 2 ⇒ Taken 0 (grant 0 at 1)
+    ∷ 210 ▸ CheckedOk 2 ⇒ Served 0 (grant 0 at 1)
+    ∷ []
+
+-- at 1 all are retired: the idle one closes at once, the one that is out when it comes back, and one that is born later stays
+abbrev pub retired_at_one : List Told
+retired_at_one =
+    0 ▸ adds 0 ⇒ Added 0 None
+    ∷ 0 ▸ adds 1 ⇒ Added 1 None
+    ∷ 0 ▸ Begin ⇒ Begun 0
+    ∷ 0 ▸ Try 0 ⇒ Served 0 (grant 0 at 2)
+    ∷ 1 ▸ Retire ⇒ Reaped 1 0 0 (grant 0 at 2)
+    ∷ 2 ▸ adds 2 ⇒ Added 2 None
+    ∷ 3 ▸ returns 0 ⇒ Closed 0 (grant 0 at 3) None
+    ∷ 4 ▸ Reap ⇒ Reaped 0 0 0 (grant 0 at 3)
+    ∷ []
+
+-- an opening is under way at a retire: its connection is served once, and closed when it comes back
+abbrev pub retired_while_opening : List Told
+retired_while_opening =
+    0 ▸ Fill true ⇒ Granted (grant 1 at 0)
+    ∷ 1 ▸ Retire ⇒ Reaped 0 0 0 (grant 0 at 1)
+    ∷ 2 ▸ opens 0 ⇒ Entered 0 None
+    ∷ 3 ▸ Begin ⇒ Begun 0
+    ∷ 3 ▸ Try 0 ⇒ Served 0 (grant 1 at 1)
+    ∷ 3 ▸ Claim ⇒ Claimed (Some 1)
+    ∷ 3 ▸ opens 1 ⇒ Entered 1 None
+    ∷ 4 ▸ returns 0 ⇒ Closed 0 (grant 0 at 2) None
+    ∷ 4 ▸ Begin ⇒ Begun 1
+    ∷ 4 ▸ Try 1 ⇒ Served 1 (grant 1 at 2)
+    ∷ 5 ▸ returns 1 ⇒ Kept 1 None
+    ∷ []
+
+-- `min_idle` spares nothing at a retire and is made good, and what that brings is not retired
+abbrev pub retired_and_made_good : List Told
+retired_and_made_good =
+    0 ▸ adds 0 ⇒ Added 0 None
+    ∷ 0 ▸ adds 1 ⇒ Added 1 None
+    ∷ 7 ▸ Retire ⇒ Reaped 2 0 0 (grant 2 at 2)
+    ∷ 7 ▸ Claim ⇒ Claimed (Some 2)
+    ∷ 7 ▸ opens 2 ⇒ Entered 2 None
+    ∷ 7 ▸ Begin ⇒ Begun 0
+    ∷ 7 ▸ Try 0 ⇒ Served 2 (grant 1 at 4)
+    ∷ 8 ▸ returns 2 ⇒ Kept 2 None
+    ∷ []
+
+-- a guard leaves with its connection for good: the oldest waiter is notified and asks for another; it leaves once, and counts as closed nowhere
+abbrev pub detached_once : List Told
+detached_once =
+    0 ▸ adds 0 ⇒ Added 0 None
+    ∷ 0 ▸ Begin ⇒ Begun 0
+    ∷ 0 ▸ Try 0 ⇒ Served 0 (grant 0 at 1)
+    ∷ 0 ▸ Begin ⇒ Begun 1
+    ∷ 0 ▸ Try 1 ⇒ Waiting (grant 0 at 1)
+    ∷ 0 ▸ Detach 0 ⇒ Closed 0 (grant 0 at 1) (Some 1)
+    ∷ 0 ▸ Detach 0 ⇒ Unfit
+    ∷ 0 ▸ returns 0 ⇒ Unfit
+    ∷ 0 ▸ Try 1 ⇒ Waiting (grant 1 at 1)
+    ∷ []
+
+-- two guards leave past the lifetime: `min_idle` is made good each time, and the oldest of two waiters is notified
+abbrev pub detached_and_made_good : List Told
+detached_and_made_good =
+    0 ▸ adds 0 ⇒ Added 0 None
+    ∷ 0 ▸ adds 1 ⇒ Added 1 None
+    ∷ 0 ▸ Begin ⇒ Begun 0
+    ∷ 0 ▸ Try 0 ⇒ Served 0 (grant 0 at 2)
+    ∷ 0 ▸ Begin ⇒ Begun 1
+    ∷ 0 ▸ Try 1 ⇒ Served 1 (grant 0 at 2)
+    ∷ 0 ▸ Begin ⇒ Begun 2
+    ∷ 0 ▸ Try 2 ⇒ Waiting (grant 0 at 2)
+    ∷ 0 ▸ Begin ⇒ Begun 3
+    ∷ 0 ▸ Try 3 ⇒ Waiting (grant 0 at 2)
+    ∷ 5 ▸ Detach 1 ⇒ Closed 1 (grant 1 at 2) (Some 2)
+    ∷ 5 ▸ Try 2 ⇒ Waiting (grant 0 at 3)
+    ∷ 5 ▸ Claim ⇒ Claimed (Some 2)
+    ∷ 5 ▸ opens 2 ⇒ Entered 2 (Some 3)
+    ∷ 5 ▸ Try 3 ⇒ Served 2 (grant 0 at 3)
+    ∷ 5 ▸ Detach 0 ⇒ Closed 0 (grant 1 at 3) (Some 2)
+    ∷ []
+
+-- an opening is given up, and who waits gets no approval by trying again: an ask grants it one, and no more
+abbrev pub asked_anew : List Told
+asked_anew =
+    0 ▸ Begin ⇒ Begun 0
+    ∷ 0 ▸ Try 0 ⇒ Waiting (grant 1 at 0)
+    ∷ 0 ▸ Claim ⇒ Claimed (Some 0)
+    ∷ 0 ▸ Failed 0 ⇒ GivenBack
+    ∷ 0 ▸ Try 0 ⇒ Waiting (grant 0 at 1)
+    ∷ 0 ▸ Ask ⇒ Granted (grant 1 at 1)
+    ∷ 0 ▸ Ask ⇒ Granted (grant 0 at 2)
+    ∷ 0 ▸ Claim ⇒ Claimed (Some 1)
+    ∷ 0 ▸ opens 1 ⇒ Entered 1 (Some 0)
+    ∷ 0 ▸ Try 0 ⇒ Served 1 (grant 0 at 2)
+    ∷ []
+
+-- a close notifies a get, though it brings nothing: an ask grants nothing for that one, as its own try asks
+abbrev pub asked_for_told : List Told
+asked_for_told =
+    0 ▸ Begin ⇒ Begun 0
+    ∷ 0 ▸ Try 0 ⇒ Waiting (grant 1 at 0)
+    ∷ 0 ▸ Begin ⇒ Begun 1
+    ∷ 0 ▸ Try 1 ⇒ Waiting (grant 1 at 1)
+    ∷ 0 ▸ Begin ⇒ Begun 2
+    ∷ 0 ▸ Try 2 ⇒ Waiting (grant 1 at 2)
+    ∷ 0 ▸ Claim ⇒ Claimed (Some 0)
+    ∷ 0 ▸ opens 0 ⇒ Entered 0 (Some 0)
+    ∷ 0 ▸ Try 0 ⇒ Served 0 (grant 0 at 3)
+    ∷ 0 ▸ Claim ⇒ Claimed (Some 1)
+    ∷ 0 ▸ Failed 1 ⇒ GivenBack
+    ∷ 0 ▸ Claim ⇒ Claimed (Some 2)
+    ∷ 0 ▸ Failed 2 ⇒ GivenBack
+    ∷ 0 ▸ PutBack 0 0 true ⇒ Closed 0 (grant 0 at 3) (Some 1)
+    ∷ 0 ▸ Ask ⇒ Granted (grant 1 at 3)
+    ∷ 0 ▸ Try 1 ⇒ Waiting (grant 1 at 4)
+    ∷ []
+
+-- three wait for two places: an ask grants no more than there is room for
+abbrev pub asked_up_to_the_size : List Told
+asked_up_to_the_size =
+    0 ▸ Begin ⇒ Begun 0
+    ∷ 0 ▸ Try 0 ⇒ Waiting (grant 1 at 0)
+    ∷ 0 ▸ Begin ⇒ Begun 1
+    ∷ 0 ▸ Try 1 ⇒ Waiting (grant 1 at 1)
+    ∷ 0 ▸ Begin ⇒ Begun 2
+    ∷ 0 ▸ Try 2 ⇒ Waiting (grant 0 at 2)
+    ∷ 0 ▸ Claim ⇒ Claimed (Some 0)
+    ∷ 0 ▸ Claim ⇒ Claimed (Some 1)
+    ∷ 0 ▸ Ask ⇒ Granted (grant 0 at 2)
+    ∷ 0 ▸ Failed 0 ⇒ GivenBack
+    ∷ 0 ▸ Failed 1 ⇒ GivenBack
+    ∷ 0 ▸ Ask ⇒ Granted (grant 2 at 2)
+    ∷ 0 ▸ Ask ⇒ Granted (grant 0 at 4)
+    ∷ 0 ▸ Claim ⇒ Claimed (Some 2)
+    ∷ 0 ▸ opens 2 ⇒ Entered 2 (Some 0)
+    ∷ 0 ▸ Ask ⇒ Granted (grant 0 at 4)
+    ∷ []
+
+-- two handles, one connection out, one idle, one approval: a close ends the last two and leaves no handle; who waits gives up, and what comes back is closed
+abbrev pub shut_once : List Told
+shut_once =
+    0 ▸ Join ⇒ Joined
+    ∷ 0 ▸ adds 0 ⇒ Added 0 None
+    ∷ 0 ▸ Begin ⇒ Begun 0
+    ∷ 0 ▸ Try 0 ⇒ Served 0 (grant 0 at 1)
+    ∷ 0 ▸ Begin ⇒ Begun 1
+    ∷ 0 ▸ Try 1 ⇒ Waiting (grant 1 at 1)
+    ∷ 0 ▸ adds 2 ⇒ Added 2 (Some 1)
+    ∷ 0 ▸ Close ⇒ Left 1
+    ∷ 0 ▸ Close ⇒ Unfit
+    ∷ 0 ▸ Join ⇒ Unfit
+    ∷ 0 ▸ Begin ⇒ Unfit
+    ∷ 0 ▸ Claim ⇒ Ended
+    ∷ 0 ▸ Reap ⇒ Ended
+    ∷ 0 ▸ Try 1 ⇒ Waiting (grant 0 at 3)
+    ∷ 0 ▸ Ask ⇒ Granted (grant 0 at 3)
+    ∷ 0 ▸ returns 0 ⇒ Closed 0 (grant 0 at 3) (Some 1)
+    ∷ 0 ▸ GiveUp 1 Cancelled None false ⇒ GaveUp None
+    ∷ []
+
+-- a pool is closed while three gets wait: each is given up, and the notified one hands its notification on
+abbrev pub shut_with_waiters : List Told
+shut_with_waiters =
+    0 ▸ adds 0 ⇒ Added 0 None
+    ∷ 0 ▸ Begin ⇒ Begun 0
+    ∷ 0 ▸ Try 0 ⇒ Served 0 (grant 0 at 1)
+    ∷ 0 ▸ Begin ⇒ Begun 1
+    ∷ 0 ▸ Try 1 ⇒ Waiting (grant 0 at 1)
+    ∷ 0 ▸ Begin ⇒ Begun 2
+    ∷ 0 ▸ Try 2 ⇒ Waiting (grant 0 at 1)
+    ∷ 0 ▸ Begin ⇒ Begun 3
+    ∷ 0 ▸ Try 3 ⇒ Waiting (grant 0 at 1)
+    ∷ 0 ▸ returns 0 ⇒ Kept 0 (Some 1)
+    ∷ 0 ▸ Close ⇒ Left 1
+    ∷ 5_000 ▸ GiveUp 1 TimedOut None false ⇒ GaveUp (Some 2)
+    ∷ 5_000 ▸ GiveUp 3 Cancelled None false ⇒ GaveUp None
+    ∷ 5_000 ▸ GiveUp 2 TimedOut None false ⇒ GaveUp None
+    ∷ 5_000 ▸ GiveUp 2 TimedOut None false ⇒ Unfit
+    ∷ 5_000 ▸ Retire ⇒ Ended
     ∷ []
 
 -- one get takes the last number that is left, and the next one finds none

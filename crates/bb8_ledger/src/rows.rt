@@ -2,14 +2,15 @@
 ghost use Rattle.std.specs.Prelude.{[], ◌∷◌};
 ghost use Rattle.bb8_types.specs.declared.api.configuration.QueueStrategy.TheVariants.{Lifo};
 ghost use Rattle.bb8_types.specs.Settings.{default_settings};
-ghost use Rattle.bb8_ledger.specs.Rows.{IsRow, HandsOverLosing, IsOvertaking, IsBackOff, unchecked, connections◌idle◌started◌direct◌waited◌timed_out◌cancelled◌wait_us◌created◌broken◌invalid◌lifetime◌idle_timeout◌};
-ghost use Rattle.bb8_ledger.specs.WorkedRows.{two_opened, three_out, first_script, overtaken, closed_puts_last, passed_by_two, closed_keeps_place, handed_on, oldest_first, newest_first, check_failed, reaped_at_the_limit, moment_goes_back, get_numbers_used_up, numbers_used_up, third_place_refused, third_adding_withheld, added_until_full, returned_unfit, none_left_valid, last_handle_left, waited_five_micros, used_again, idled_out, spared_oldest, spared_newest, spared_after_expired, expired_not_spared, returned_too_old, cancelled_in_check, given_back, returned_after_last_handle};
+ghost use Rattle.bb8_ledger.specs.Rows.{IsRow, HandsOverLosing, HandsOverMissing, IsOvertaking, IsBackOff, unchecked, connections◌idle◌started◌direct◌waited◌timed_out◌cancelled◌wait_us◌created◌broken◌invalid◌lifetime◌idle_timeout◌, ◌retired◌, ◌detached◌};
+ghost use Rattle.bb8_ledger.specs.WorkedRows.{two_opened, three_out, first_script, overtaken, closed_puts_last, passed_by_two, closed_keeps_place, handed_on, oldest_first, newest_first, check_failed, reaped_at_the_limit, moment_goes_back, get_numbers_used_up, numbers_used_up, third_place_refused, third_adding_withheld, added_until_full, returned_unfit, none_left_valid, last_handle_left, waited_five_micros, used_again, idled_out, spared_oldest, spared_newest, spared_after_expired, expired_not_spared, returned_too_old, cancelled_in_check, given_back, returned_after_last_handle, checked_after_a_second, doubted_in_check, fresh_since_its_entry, detached_once, detached_and_made_good, retired_at_one, retired_while_opening, retired_and_made_good, asked_anew, asked_for_told, asked_up_to_the_size, shut_once, shut_with_waiters};
 
-/// Worked rows of the definitions: no code stands behind them. Each clause but the last four says of one row that the whole step table
-/// allows the answers of its lines, from its configuration and first numbers on, and that the state shown at the end has these figures.
-/// The clause `order` says which of them hand over, and how many places closes cost there.
-/// The last three tell the waits of a back-off in nanoseconds, and how many of them end within the timeout. The behaviour is upstream's
-/// but where the list of differences says otherwise; the function is our own.
+/// Worked rows of the definitions: no code stands behind them. Each clause but the last four says
+/// of one row that the whole step table allows the answers of its lines, from its configuration and
+/// first numbers on, and that the state shown at the end has these figures. The clause `order` says
+/// which of them hand over, and how many places closes cost there. The last three tell the waits of
+/// a back-off in nanoseconds, and how many of them end within the timeout. The behaviour is
+/// upstream's but where the list of differences says otherwise; the function is our own.
 pub fn worked_rows()
     ensures two_opened { IsRow (record (unchecked 5) { min_idle = Some 2 }) 0 0 two_opened
         (connections 2 idle 2 started 0 direct 0 waited 0 timed_out 0 cancelled 0
@@ -41,6 +42,56 @@ pub fn worked_rows()
     ensures newest_first { IsRow (record (unchecked 3) { queue_strategy = Lifo }) 0 0 newest_first
         (connections 3 idle 2 started 1 direct 1 waited 0 timed_out 0 cancelled 0
         wait_us 0 created 0 broken 0 invalid 0 lifetime 0 idle_timeout 0) }
+    ensures detached_once { IsRow (record (unchecked 1) { max_lifetime = Some 1 }) 0 0 detached_once
+        (connections 0 idle 0 started 2 direct 1 waited 0 timed_out 0 cancelled 0
+        wait_us 0 created 0 broken 0 invalid 0 lifetime 0 idle_timeout 0 detached 1) }
+    ensures detached_and_made_good { IsRow (record (unchecked 2) {
+      min_idle = Some 1;
+      max_lifetime = Some 1;
+    })
+        0 0 detached_and_made_good
+        (connections 1 idle 0 started 4 direct 2 waited 1 timed_out 0 cancelled 0
+        wait_us 0 created 1 broken 0 invalid 0 lifetime 0 idle_timeout 0 detached 2) }
+    ensures retired_at_one { IsRow (unchecked 2) 0 0 retired_at_one
+        (connections 1 idle 1 started 1 direct 1 waited 0 timed_out 0 cancelled 0
+        wait_us 0 created 0 broken 0 invalid 0 lifetime 0 idle_timeout 0 retired 2) }
+    ensures retired_while_opening { IsRow (record (unchecked 2) { min_idle = Some 1 })
+        0 0 retired_while_opening
+        (connections 1 idle 1 started 2 direct 2 waited 0 timed_out 0 cancelled 0
+        wait_us 0 created 2 broken 0 invalid 0 lifetime 0 idle_timeout 0 retired 1) }
+    ensures retired_and_made_good { IsRow (record (unchecked 3) { min_idle = Some 2 })
+        0 0 retired_and_made_good
+        (connections 1 idle 1 started 1 direct 1 waited 0 timed_out 0 cancelled 0
+        wait_us 0 created 1 broken 0 invalid 0 lifetime 0 idle_timeout 0 retired 2) }
+    ensures asked_anew { IsRow (unchecked 2) 0 0 asked_anew
+        (connections 1 idle 0 started 1 direct 0 waited 1 timed_out 0 cancelled 0
+        wait_us 0 created 1 broken 0 invalid 0 lifetime 0 idle_timeout 0) }
+    ensures asked_for_told { IsRow (unchecked 3) 0 0 asked_for_told
+        (connections 0 idle 0 started 3 direct 0 waited 1 timed_out 0 cancelled 0
+        wait_us 0 created 1 broken 1 invalid 0 lifetime 0 idle_timeout 0) }
+    ensures asked_up_to_the_size { IsRow (unchecked 2) 0 0 asked_up_to_the_size
+        (connections 1 idle 1 started 3 direct 0 waited 0 timed_out 0 cancelled 0
+        wait_us 0 created 1 broken 0 invalid 0 lifetime 0 idle_timeout 0) }
+    ensures shut_once { IsRow (unchecked 3) 0 0 shut_once
+        (connections 0 idle 0 started 2 direct 1 waited 0 timed_out 0 cancelled 1
+        wait_us 0 created 0 broken 0 invalid 0 lifetime 0 idle_timeout 0) }
+    ensures shut_with_waiters { IsRow (unchecked 1) 0 0 shut_with_waiters
+        (connections 0 idle 0 started 4 direct 1 waited 0 timed_out 2 cancelled 1
+        wait_us 10 created 0 broken 0 invalid 0 lifetime 0 idle_timeout 0) }
+    ensures checked_after_a_second { IsRow (record default_settings {
+      max_size = 1;
+      test_after = 1_000_000_000;
+    }) 0 0 checked_after_a_second
+        (connections 1 idle 0 started 2 direct 2 waited 0 timed_out 0 cancelled 0
+        wait_us 0 created 0 broken 0 invalid 0 lifetime 0 idle_timeout 0) }
+    ensures doubted_in_check { IsRow (record default_settings { max_size = 1; test_after = 1 })
+        0 0 doubted_in_check
+        (connections 0 idle 0 started 2 direct 0 waited 0 timed_out 1 cancelled 0
+        wait_us 0 created 0 broken 1 invalid 0 lifetime 0 idle_timeout 0) }
+    ensures fresh_since_its_entry { IsRow (record default_settings { max_size = 1; test_after = 10 })
+        0 0 fresh_since_its_entry
+        (connections 1 idle 0 started 3 direct 2 waited 1 timed_out 0 cancelled 0
+        wait_us 0 created 1 broken 0 invalid 0 lifetime 0 idle_timeout 0) }
     ensures check_failed { IsRow default_settings 0 0 check_failed
         (connections 0 idle 0 started 1 direct 0 waited 0 timed_out 0 cancelled 0
         wait_us 0 created 0 broken 1 invalid 1 lifetime 0 idle_timeout 0) }
@@ -160,6 +211,7 @@ pub fn worked_rows()
         wait_us 0 created 0 broken 0 invalid 0 lifetime 0 idle_timeout 0) }
     ensures order { IsOvertaking overtaken × HandsOverLosing 0 closed_keeps_place
         × HandsOverLosing 1 closed_puts_last × HandsOverLosing 2 passed_by_two }
+    ensures asked_for_all { HandsOverMissing 0 asked_anew × HandsOverMissing 2 asked_for_told }
     ensures waits_of_one_second { IsBackOff 1_000_000_000
         (400_000_000 ∷ 500_000_000 ∷ 500_000_000 ∷ []) 2 }
     ensures waits_of_thirty_seconds { IsBackOff 30_000_000_000

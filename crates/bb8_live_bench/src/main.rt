@@ -1,19 +1,20 @@
 //! Rounds of a live pool, for a profiler: a get is polled once, and its guard is dropped.
 //!
-//! `bb8_live_bench hand ROUNDS SIZE`: one thread, a pool of `SIZE` idle connections, each get polled by hand, on a clock that is set.
-//! `bb8_live_bench check ROUNDS SIZE`: the same with the check on.
-//! `bb8_live_bench machine ROUNDS SIZE`: the first on the machine's clock.
+//! `bb8_live_bench hand ROUNDS SIZE`: one thread, a pool of `SIZE` idle connections, each get
+//! polled by hand, on a clock that is set. `bb8_live_bench check ROUNDS SIZE`: the same with the
+//! check on. `bb8_live_bench machine ROUNDS SIZE`: the first on the machine's clock.
 //! `bb8_live_bench block ROUNDS SIZE`: the first by an executor that is made for each get.
-//! `bb8_live_bench task ROUNDS SIZE`: polls of a future that is ready, which are taken off the first.
-//! `bb8_live_bench threads ROUNDS SIZE [THREADS]`: so many threads, four if none is said, of so many rounds each, polled by hand until
-//! they are served, on the machine's clock.
+//! `bb8_live_bench task ROUNDS SIZE`: polls of a future that is ready, which are taken off the
+//! first. `bb8_live_bench threads ROUNDS SIZE [THREADS]`: so many threads, four if none is said, of
+//! so many rounds each, polled by hand until they are served, on the machine's clock.
 //! `bb8_live_bench threads-check ROUNDS SIZE [THREADS]`: the same with the check on.
-//! `bb8_live_bench crowd GETS SIZE`: so many gets wait for the connections, which are all out, and are served one by one.
-//! `bb8_live_bench let-go GETS SIZE`: so many gets wait in the same way, and are let go.
-//! `bb8_live_bench wait GETS SIZE`: so many gets wait in the same way, for a while.
-//! It prints how many gets were served, or waited.
-//! `bb8_live_bench wake ROUNDS`: two threads take turns with one connection, so many rounds each, and sleep in their gets. It prints the
-//! median and the 95th percentile of the nanoseconds from a return to the answer of the get that waits for it.
+//! `bb8_live_bench crowd GETS SIZE`: so many gets wait for the connections, which are all out, and
+//! are served one by one. `bb8_live_bench let-go GETS SIZE`: so many gets wait in the same way, and
+//! are let go. `bb8_live_bench wait GETS SIZE`: so many gets wait in the same way, for a while. It
+//! prints how many gets were served, or waited. `bb8_live_bench wake ROUNDS`: two threads take
+//! turns with one connection, so many rounds each, and sleep in their gets. It prints the median
+//! and the 95th percentile of the nanoseconds from a return to the answer of the get that waits for
+//! it.
 #![tactic(auto)]
 
 ghost use Rattle.std.specs.Prelude.{◌<◌, false};
@@ -94,7 +95,8 @@ fn full<K: Clock, R: Runtime, L: PoolParts>(
     Ok(pool)
 }
 
-/// Runs a mode of one thread on a clock that is set, with the check on or off: how many gets were served.
+/// Runs a mode of one thread on a clock that is set, with the check on or off: how many gets were
+/// served.
 fn alone<R: Runtime, L: PoolParts>(
     rt: R,
     blank: Blank,
@@ -117,7 +119,8 @@ fn alone<R: Runtime, L: PoolParts>(
     }
 }
 
-/// Runs a mode on the machine's clock, in one thread or in more, with the check on or off: how many gets were served.
+/// Runs a mode on the machine's clock, in one thread or in more, with the check on or off: how many
+/// gets were served.
 fn clocked<R: Runtime + Threads, L: PoolParts>(
     rt: R,
     blank: Blank,
@@ -140,8 +143,8 @@ fn clocked<R: Runtime + Threads, L: PoolParts>(
     }
 }
 
-/// Runs a mode of gets that wait, on a clock that stands still, so that what the others are measured by stays compiled for them alone: how
-/// many gets were served, or waited.
+/// Runs a mode of gets that wait, on a clock that stands still, so that what the others are
+/// measured by stays compiled for them alone: how many gets were served, or waited.
 fn crowded<R: Runtime, L: PoolParts>(
     rt: R,
     blank: Blank,

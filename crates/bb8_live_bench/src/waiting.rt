@@ -45,7 +45,8 @@ fn waiting<'a, K: Clock, R: Runtime, L: PoolParts>(
     Ok(crowd)
 }
 
-/// So many gets wait; then one after another a guard is dropped, and the get that waited longest is polled by hand and served: how many were.
+/// So many gets wait; then one after another a guard is dropped, and the get that waited longest is
+/// polled by hand and served: how many were.
 pub fn served_in_turn<K: Clock, R: Runtime, L: PoolParts>(
     rt: &R,
     pool: &NumberPool<K, R, L>,

@@ -11,7 +11,8 @@ use std::thread;
 use std::thread::Threads;
 use std::time::Duration;
 
-/// Two threads take turns: one has the one connection for a while, and the other sleeps in its get meanwhile.
+/// Two threads take turns: one has the one connection for a while, and the other sleeps in its get
+/// meanwhile.
 #[derive(Drop)]
 struct Turns<R> {
     rt: R,
@@ -77,8 +78,9 @@ impl<R: Runtime> Service<Blocking<NumberManager>, NopErrorSink, NopCustomizer, M
     }
 }
 
-/// Runs two threads of so many rounds each: the median and the 95th percentile of the nanoseconds from a return to the answer of the get that
-/// sleeps, or None where a get was not served or none slept.
+/// Runs two threads of so many rounds each: the median and the 95th percentile of the nanoseconds
+/// from a return to the answer of the get that sleeps, or None where a get was not served or none
+/// slept.
 pub fn woken<R: Runtime + Threads>(rt: R, rounds: u64) -> Option<(u64, u64)> {
     let turns = Turns {
         rt,

@@ -1,13 +1,15 @@
 //! The handles of a script's pool, and what they are asked for.
 
+use crate::ending::{LentEnding, OwnedEnding};
 use crate::shelf::Shelf;
 use bb8::{AddError, Memory, RunError, State};
 use bb8_trials::{
-    Either, LentHandle, OwnedHandle, Polled, Refused, Server, ServerConnection, Unbuilt,
-    cancel_either, poll_either,
+    Either, OwnedHandle, Polled, Refused, Server, ServerConnection, Unbuilt, cancel_either,
+    poll_either,
 };
 use futures::task::Poll;
 use futures::test::MockTask;
+use std::alloc::Global;
 
 /// A connection's number, how many checks of it were begun, and what a customizer made of it.
 pub type Facts = (u64, u64, u64);
@@ -17,7 +19,8 @@ pub fn facts_of(connection: &ServerConnection) -> Facts {
     (connection.number, connection.checks, connection.field)
 }
 
-/// What a script asks of its pool. A call by a handle that is not there, or that such handles do not have, answers None.
+/// What a script asks of its pool. A call by a handle that is not there, or that such handles do
+/// not have, answers None.
 pub trait Asked: Drop {
     /// A get, by a handle or with one of its own.
     type Get: Drop;
@@ -46,6 +49,9 @@ pub trait Asked: Drop {
     /// The guard's connection is found broken from now on.
     fn spoil(guard: &mut Self::Guard);
 
+    /// The guard's connection leaves the pool for good.
+    fn detach(guard: Self::Guard) -> ServerConnection;
+
     /// Whether a get that is let go after its first poll is served at it.
     fn serves(&self, task: &MockTask, handle: u64) -> Option<bool>;
 
@@ -56,6 +62,13 @@ pub trait Asked: Drop {
     ) -> Option<Result<(), AddError<ServerConnection>>>;
 
     fn state(&self, handle: u64) -> Option<State>;
+
+    fn retire(&self, alloc: Global, handle: u64) -> Option<()>;
+
+    /// Closes the pool, by a handle.
+    fn close(&self, alloc: Global, handle: u64) -> Option<()>;
+
+    fn is_closed(&self, handle: u64) -> Option<bool>;
 
     fn dedicated(&self) -> Option<Self::Dedicated> {
         None
@@ -94,12 +107,12 @@ pub trait Asked: Drop {
 
 /// One handle by reference, or two.
 #[derive(Drop)]
-pub struct Lent<P: LentHandle<Server> + Drop> {
+pub struct Lent<P: LentEnding<Server> + Drop> {
     pub first: P,
     pub second: Option<P>,
 }
 
-impl<P: LentHandle<Server> + Drop> Lent<P> {
+impl<P: LentEnding<Server> + Drop> Lent<P> {
     fn handle(&self, handle: u64) -> Option<P> {
         match handle {
             0 => Some(self.first),
@@ -109,7 +122,7 @@ impl<P: LentHandle<Server> + Drop> Lent<P> {
     }
 }
 
-impl<P: LentHandle<Server> + Drop> Asked for Lent<P> {
+impl<P: LentEnding<Server> + Drop> Asked for Lent<P> {
     type Get = Either<P::Get, P::OwnedGet>;
 
     type Guard = Either<P::Guard, P::OwnedGuard>;
@@ -154,6 +167,13 @@ impl<P: LentHandle<Server> + Drop> Asked for Lent<P> {
         }
     }
 
+    fn detach(guard: Self::Guard) -> ServerConnection {
+        match guard {
+            Either::Lent(guard) => P::detach(guard),
+            Either::Owned(guard) => P::detach_owned(guard),
+        }
+    }
+
     fn serves(&self, task: &MockTask, handle: u64) -> Option<bool> {
         Some(self.handle(handle)?.lend(task).is_some())
     }
@@ -168,6 +188,20 @@ impl<P: LentHandle<Server> + Drop> Asked for Lent<P> {
 
     fn state(&self, handle: u64) -> Option<State> {
         Some(self.handle(handle)?.state())
+    }
+
+    fn retire(&self, alloc: Global, handle: u64) -> Option<()> {
+        self.handle(handle)?.retire(alloc);
+        Some(())
+    }
+
+    fn close(&self, alloc: Global, handle: u64) -> Option<()> {
+        self.handle(handle)?.close(alloc);
+        Some(())
+    }
+
+    fn is_closed(&self, handle: u64) -> Option<bool> {
+        Some(self.handle(handle)?.is_closed())
     }
 
     fn dedicated(&self) -> Option<P::Dedicated> {
@@ -189,12 +223,12 @@ impl<P: LentHandle<Server> + Drop> Asked for Lent<P> {
 
 /// Handles that a script may make and drop, and the building of a pool that has none yet.
 #[derive(Drop)]
-pub struct Handles<B: Unbuilt<Server>> {
+pub struct Handles<B: Unbuilt<Server, Pool: OwnedEnding<Server>>> {
     pub building: Option<B>,
     pub handles: Shelf<B::Pool>,
 }
 
-impl<B: Unbuilt<Server>> Asked for Handles<B> {
+impl<B: Unbuilt<Server, Pool: OwnedEnding<Server>>> Asked for Handles<B> {
     type Get = <B::Pool as OwnedHandle<Server>>::OwnedGet;
 
     type Guard = <B::Pool as OwnedHandle<Server>>::OwnedGuard;
@@ -225,6 +259,10 @@ impl<B: Unbuilt<Server>> Asked for Handles<B> {
         guard.is_broken = true;
     }
 
+    fn detach(guard: Self::Guard) -> ServerConnection {
+        B::Pool::detach(guard)
+    }
+
     fn serves(&self, task: &MockTask, handle: u64) -> Option<bool> {
         Some(self.handles.get(handle)?.serves_at_once(task))
     }
@@ -239,6 +277,20 @@ impl<B: Unbuilt<Server>> Asked for Handles<B> {
 
     fn state(&self, handle: u64) -> Option<State> {
         Some(self.handles.get(handle)?.state())
+    }
+
+    fn retire(&self, alloc: Global, handle: u64) -> Option<()> {
+        self.handles.get(handle)?.retire(alloc);
+        Some(())
+    }
+
+    fn close(&self, alloc: Global, handle: u64) -> Option<()> {
+        self.handles.get(handle)?.close(alloc);
+        Some(())
+    }
+
+    fn is_closed(&self, handle: u64) -> Option<bool> {
+        Some(self.handles.get(handle)?.is_closed())
     }
 
     fn clone_to(&mut self, number: u64) -> Option<()> {

@@ -4,6 +4,7 @@ ghost use Rattle.bb8.specs.Parts.{IsBlankOf};
 ghost use Rattle.bb8.specs.Settings.{settings_of, is_lawful};
 
 use crate::asked::{Asked, Handles, Lent};
+use crate::ending::{LentEnding, OwnedEnding};
 use crate::play::{Play, Setup, set_board};
 use crate::preparing::Preparer;
 use crate::shelf::Shelf;
@@ -14,7 +15,7 @@ use bb8::{
 use bb8_runner::fault::Fault;
 use bb8_runner::grammar::{fields_of, number};
 use bb8_runner::lines::{NoScript, script_of};
-use bb8_trials::{Board, Errors, LentHandle, Number, Server, Unbuilt, builder_on, server_on};
+use bb8_trials::{Board, Errors, Number, Server, Unbuilt, builder_on, server_on};
 use futures::task::Poll;
 use futures::test::MockTask;
 use std::alloc::Global;
@@ -26,7 +27,8 @@ type LivePool<R, L> = Pool<Server, Errors, Preparer, SetClock, R, L>;
 
 type LiveBuilding<R, L> = Building<Server, Errors, Preparer, SetClock, R, L>;
 
-/// The driver of a script's pool. A name in place of a bound keeps the proofs of what calls it small.
+/// The driver of a script's pool. A name in place of a bound keeps the proofs of what calls it
+/// small.
 pub type LiveDriver<R, L> = Driver<Server, Errors, Preparer, SetClock, R, L>;
 
 type LiveBuilder = Builder<Server, Errors, Preparer>;
@@ -87,6 +89,7 @@ fn builder_of(
             .max_size(config.max_size)
             .min_idle(config.min_idle)
             .test_on_check_out(config.test_on_check_out)
+            .test_on_check_out_after(config.test_after)
             .max_lifetime(config.max_lifetime)
             .idle_timeout(config.idle_timeout)
             .connection_timeout(config.connection_timeout)
@@ -116,7 +119,7 @@ fn perform<A: Asked, R: Runtime, L: PoolParts>(
 }
 
 /// Plays a script with handles by reference.
-fn lend<P: LentHandle<Server> + Drop, R: Runtime, L: PoolParts>(
+fn lend<P: LentEnding<Server> + Drop, R: Runtime, L: PoolParts>(
     lent: (P, Option<P>),
     drivers: Shelf<LiveDriver<R, L>>,
     setup: Setup,
@@ -128,7 +131,7 @@ fn lend<P: LentHandle<Server> + Drop, R: Runtime, L: PoolParts>(
 }
 
 /// Plays a script that has its handles, or the building of its pool.
-fn hold<B: Unbuilt<Server>, R: Runtime, L: PoolParts>(
+fn hold<B: Unbuilt<Server, Pool: OwnedEnding<Server>>, R: Runtime, L: PoolParts>(
     held: (Option<B>, Shelf<B::Pool>),
     drivers: Shelf<LiveDriver<R, L>>,
     setup: Setup,
@@ -145,7 +148,8 @@ fn hold<B: Unbuilt<Server>, R: Runtime, L: PoolParts>(
     )
 }
 
-/// A pool of these settings. None where its first connections were not there after two polls of its building.
+/// A pool of these settings. None where its first connections were not there after two polls of its
+/// building.
 fn pool_of<R: Runtime, L: PoolParts>(
     rt: R,
     blank: Blank,
@@ -223,7 +227,8 @@ fn play_on<R: Runtime, L: PoolParts>(
     lend((&pool, second), drivers, setup, lines, beginning.lines)
 }
 
-/// Sets what the lines in front of the beginning say, and answers that. None where another line stands there.
+/// Sets what the lines in front of the beginning say, and answers that. None where another line
+/// stands there.
 fn prelude(
     alloc: Global,
     board: &Board,

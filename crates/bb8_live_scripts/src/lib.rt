@@ -1,5 +1,6 @@
-//! Scripts of live pools, which are answered line by line: real pools, with a server that answers as the script says, a clock that it sets, and
-//! a driver that it turns. The format is in docs/SCRIPTS.md, "Live pools".
+//! Scripts of live pools, which are answered line by line: real pools, with a server that answers
+//! as the script says, a clock that it sets, and a driver that it turns. The format is in
+//! docs/SCRIPTS.md, "Live pools".
 #![tactic(auto)]
 
 use bb8::Runtime;
@@ -11,6 +12,7 @@ use std::str;
 
 mod answer;
 mod asked;
+mod ending;
 mod laying;
 mod play;
 mod preparing;

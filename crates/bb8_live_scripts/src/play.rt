@@ -108,7 +108,8 @@ impl<A: Asked, R: Runtime, L: PoolParts> Play<A, R, L> {
         }
     }
 
-    /// How many openings were begun, connections dropped, and errors taken; whether the script's task was woken.
+    /// How many openings were begun, connections dropped, and errors taken; whether the script's
+    /// task was woken.
     fn counted(&self, verb: &str) -> Option<LineAnswer> {
         let board = &self.setup.board;
         match verb {
@@ -120,7 +121,7 @@ impl<A: Asked, R: Runtime, L: PoolParts> Play<A, R, L> {
         }
     }
 
-    /// What a handle tells.
+    /// What a handle tells or does. A `close` with a number cancels an opening.
     fn by_handle(&mut self, verb: &str, handle: u64) -> Option<LineAnswer> {
         match verb {
             "state" => self.asked.state(handle).map(LineAnswer::State),
@@ -129,6 +130,15 @@ impl<A: Asked, R: Runtime, L: PoolParts> Play<A, R, L> {
             "serves" => self.asked.serves(&self.setup.task, handle).map(yes_or_no),
             "clone" => self.asked.clone_to(handle).map(|_| LineAnswer::Done),
             "leave" => self.asked.leave(handle).map(|_| LineAnswer::Done),
+            "retire" => self
+                .asked
+                .retire(self.setup.alloc, handle)
+                .map(|_| LineAnswer::Done),
+            "close" => self
+                .asked
+                .close(self.setup.alloc, handle)
+                .map(|_| LineAnswer::Done),
+            "is_closed" => self.asked.is_closed(handle).map(yes_or_no),
             _ => None,
         }
     }
@@ -146,6 +156,7 @@ impl<A: Asked, R: Runtime, L: PoolParts> Play<A, R, L> {
             "guard" => return Some(LineAnswer::Connection(A::facts(self.guards.get(n)?))),
             "spoil" => A::spoil(self.guards.get_mut(n)?),
             "return" => drop(self.guards.take(n)?),
+            "detach" => return self.detach(n),
             "rest" => drop(self.drivers.take(n)?),
             "drive" => {
                 let _ = self.turn(n, 0)?;
@@ -212,12 +223,21 @@ impl<A: Asked, R: Runtime, L: PoolParts> Play<A, R, L> {
         match self.asked.poll_dedicated(&self.setup.task, opening) {
             Poll::Pending => Some(LineAnswer::Pending),
             Poll::Ready(Err(error)) => Some(LineAnswer::Refused(error.0)),
-            Poll::Ready(Ok(connection)) => {
-                let facts = facts_of(&connection);
-                self.connections.put(n, connection)?;
-                Some(LineAnswer::Connection(facts))
-            }
+            Poll::Ready(Ok(connection)) => self.keep(n, connection),
         }
+    }
+
+    /// A guard leaves the pool with its connection, which goes under the guard's number.
+    fn detach(&mut self, n: u64) -> Option<LineAnswer> {
+        let connection = A::detach(self.guards.take(n)?);
+        self.keep(n, connection)
+    }
+
+    /// A connection that is no pool's goes under this number.
+    fn keep(&mut self, n: u64, connection: ServerConnection) -> Option<LineAnswer> {
+        let facts = facts_of(&connection);
+        self.connections.put(n, connection)?;
+        Some(LineAnswer::Connection(facts))
     }
 
     /// A turn of a driver at this moment.

@@ -7,8 +7,8 @@ use futures::task::Poll;
 /// The error of a preparation.
 const UNPREPARED: u64 = 100;
 
-/// Prepares nothing, or numbers the connections that it prepares from 1, in their field: then each preparation is pending at its first poll,
-/// and those of a number above `most` fail.
+/// Prepares nothing, or numbers the connections that it prepares from 1, in their field: then each
+/// preparation is pending at its first poll, and those of a number above `most` fail.
 #[derive(Drop)]
 pub struct Preparer {
     pub most: Option<u64>,

@@ -21,7 +21,8 @@ impl<T: Drop> Shelf<T> {
         Ok(Shelf { things })
     }
 
-    /// A thing goes under this number, and what was there is dropped. None where there is no such number.
+    /// A thing goes under this number, and what was there is dropped. None where there is no such
+    /// number.
     pub fn put(&mut self, number: u64, thing: T) -> Option<()> {
         *self.things.get_mut(usize::try_from(number).ok()?)? = Some(thing);
         Some(())

@@ -5,7 +5,8 @@ mod masses;
 use bb8_live_scripts::run;
 use std::test::Fail;
 
-/// A get that is served otherwise than it says, a line that does not fit, and beginnings that are none.
+/// A get that is served otherwise than it says, a line that does not fit, and beginnings that are
+/// none.
 const WRONG: &[u8] = b"\
     == a get\n\
     config max_size=1\n\

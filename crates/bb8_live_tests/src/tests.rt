@@ -154,6 +154,7 @@ fn sets_all(rt: HostRuntime) {
         .max_size(3)
         .min_idle(Some(2))
         .test_on_check_out(false)
+        .test_on_check_out_after(Duration::from_secs(4))
         .max_lifetime(Some(Duration::from_secs(60)))
         .idle_timeout(None)
         .connection_timeout(Duration::from_millis(1500))
@@ -164,6 +165,7 @@ fn sets_all(rt: HostRuntime) {
     assert_equal(&rt, config.max_size, 3);
     assert_equal(&rt, config.min_idle, Some(2));
     assert!(rt; !config.test_on_check_out);
+    assert_equal(&rt, config.test_after, Duration::from_secs(4));
     assert_equal(&rt, config.max_lifetime, Some(Duration::from_secs(60)));
     assert_equal(&rt, config.idle_timeout, None);
     assert_equal(&rt, config.connection_timeout, Duration::from_millis(1500));

@@ -3,10 +3,10 @@ use Rattle.std.specs.Prelude.{ℕ, Bool, false, ◌||◌, ltb, Option, is_some, 
 use Rattle.bb8_ledger.specs.Answers.{Answer, Served, Taken, Waiting, Closed, Granted, Reaped, Memory, Exhausted}
 use Rattle.bb8_ledger.specs.Handed.{told_by}
 use Rattle.bb8_core.specs.Unfit.{answered}
-use Rattle.bb8_core.specs.StepAnswers.{answer_of_add, answer_of_checked_err, answer_of_give_up, answer_of_opened, answer_of_put_back}
+use Rattle.bb8_core.specs.StepAnswers.{answer_of_add, answer_of_checked_err, answer_of_give_up, answer_of_opened, answer_of_put_back, answer_of_reap, answer_of_detach}
 use Rattle.bb8_gets.specs.declared.home.FirstTry.{FirstTry}
 use Rattle.bb8_gets.specs.declared.home.FirstTry.TheVariants as first
-use Rattle.bb8_gets.specs.Steps.{GetStep, Starts, Tries, Fails, GivesUp, GivesBack, PutsBack, Adds, Leaves}
+use Rattle.bb8_gets.specs.Steps.{GetStep, Starts, Tries, Fails, GivesUp, GivesBack, PutsBack, Adds, Leaves, Retires, Detaches, Closes}
 use Rattle.bb8_gets.specs.Told.{answer_of_tried}
 use Rattle.bb8_lock.specs.declared.bell.Rings.{Rings}
 use Rattle.bb8_tasks.specs.TaskSteps.{TaskStep, Opens}
@@ -44,8 +44,9 @@ answer_of_first first.Memory = Memory
 answer_of_first first.Exhausted = Exhausted
 
 module _ {C P H : Type 0} where
-  -- A step rings by its answer. A handle that leaves rings the drivers where no handle is alive then; a look, a check that was passed, the
-  -- figures and a handle that is made ring nobody.
+  -- A step rings by its answer. A handle that leaves rings the drivers where no handle is alive
+  -- then, and a close both; a look, a check that was passed, the figures and a handle that is made
+  -- ring nobody.
   abbrev pub get_bells : Bool → GetStep C P H → Rings
   get_bells over (Starts a) = bells_of (answered answer_of_first a)
   get_bells over (Tries g a) = bells_of (answered answer_of_tried a)
@@ -55,9 +56,13 @@ module _ {C P H : Type 0} where
   get_bells over (PutsBack r a) = bells_of (answered (answer_of_put_back r.taken.key.number) a)
   get_bells over (Adds conn broken a) = bells_of (answered answer_of_add a)
   get_bells over (Leaves a) = record { gets = false; drivers = over }
+  get_bells over (Retires list a offered) = bells_of (answer_of_reap a)
+  get_bells over (Detaches key part a) = bells_of (answered (answer_of_detach key.number) a)
+  get_bells over (Closes list closed a) = record { gets = over; drivers = over }
   get_bells over _ = silent
 
--- An opening rings the bells of its answer. Of the rest nothing is asked: what a reap granted its driver claims next.
+-- An opening rings the bells of its answer. Of the rest nothing is asked: what a reap granted, or
+-- the asking after it, its driver claims next.
 abbrev pub RingsFor : {C : Type 0} → (Rings → Type 0) → TaskStep C → Type 0
 RingsFor Rung (Opens approval c a) = Rung (bells_of (answered (answer_of_opened approval.number) a))
 RingsFor Rung _ = ⊤

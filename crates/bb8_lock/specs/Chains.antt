@@ -1,14 +1,18 @@
--- What guards and handles do with a pool, over the relations of any home and of any calls outside. As these are free, each says
--- which calls and steps are made, how many, and in which order.
-use Rattle.std.specs.Prelude.{◌≡◌, ℕ, ◌<◌, Bool, Option, Some, None, Result, Ok, Err}
+-- What guards and handles do with a pool, over the relations of any home and of any calls outside.
+-- As these are free, each says which calls and steps are made, how many, and in which order.
+use Rattle.std.specs.Prelude.{◌≡◌, ℕ, ◌<◌, Bool, Option, Some, None, Result, Ok, Err, List, [], ◌∷◌, ◌⊎◌, not}
+use Rattle.circular_buffer.specs.Buffer.{Buffer, buffer}
 use Rattle.bb8_lock.specs.Words.{Poll, Ready, Pending, AddError, RunError, State, Moment, AddAnswer, HomeOf, Taken, OutsideOf, Settled, Stage, Asks, Cancels, Starts, GetPolls, Joining}
 use Rattle.bb8_gets.specs.declared.state.Stage.TheVariants.{Fresh}
 use Rattle.bb8_types.specs.declared.api.errors.AddError.TheVariants.{Broken, NoCapacity, Withheld}
 use Rattle.bb8_core.specs.declared.answers.AddAnswer.TheVariants as adding
+use Rattle.bb8_core.specs.declared.answers.DetachAnswer.{DetachAnswer}
 use Rattle.bb8_core.specs.declared.answers.LeaveAnswer.{LeaveAnswer}
 use Rattle.bb8_core.specs.declared.answers.Looked.{Looked}
 use Rattle.bb8_core.specs.declared.answers.PutBackAnswer.{PutBackAnswer}
 use Rattle.bb8_core.specs.declared.answers.PutBackAnswer.TheVariants as put_back
+use Rattle.bb8_core.specs.declared.answers.ReapAnswer.{ReapAnswer}
+use Rattle.bb8_tables.specs.declared.closed.Closed.{Closed}
 use Rattle.bb8_gets.specs.declared.home.Returned.{Returned}
 use Rattle.bb8_core.specs.declared.answers.Unfit.{Unfit}
 use Rattle.bb8_gets.specs.Polls.{rest_of}
@@ -23,6 +27,10 @@ IsTold (Ok (adding.Broken c)) told = told ≡ Err (Broken c)
 IsTold (Ok (adding.NoCapacity c)) told = told ≡ Err (NoCapacity c)
 IsTold (Ok (adding.Withheld c)) told = told ≡ Err (Withheld c)
 IsTold (Err c) told = told ≡ Err (NoCapacity c)
+
+-- an empty list for so many closed connections; it has no room if memory for it was refused
+abbrev pub IsListFor : {C : Type 0} → ℕ → Buffer (Closed C) → Type 0
+IsListFor size list = (list ≡ buffer [] size) ⊎ (list ≡ buffer [] 0)
 
 -- what a poll answered, and none where it did not answer
 abbrev pub served_in : {A E : Type 0} → Poll (Result A E) → Result (Option A) E
@@ -47,18 +55,25 @@ module _ {C E V X : Type 0} (outside : OutsideOf X C E V) where
   AfterReturn (Ok (put_back.Closed c grant n)) x x' = outside.lets_go x c x'
   AfterReturn (Err c) x x' = outside.lets_go x c x'
 
+  -- these connections are dropped, one after another
+  abbrev pub DropsEach : List (Closed C) → X → X → Type 0
+  DropsEach [] x x' = x' ≡ x
+  DropsEach (closed ∷ more) x x' = (x1 : X) × outside.lets_go x closed.conn x1 × DropsEach more x1 x'
+
 module _ {C E V P H X : Type 0} (home : HomeOf X C P H) (outside : OutsideOf X C E V) where
   -- the clock is read, a section is made, and the home is released
   abbrev pub Section : (X → Moment → X → Type 0) → X → X → Type 0
   Section Step x x' = (at : Moment) × (x1 : X) × (x2 : X) × outside.tells x at x1 × Step x1 at x2 × home.releases x2 x'
 
-  -- a guard's connection comes back: it is asked whether it is broken, the home takes it back, and it is dropped where it does not stay
+  -- a guard's connection comes back: it is asked whether it is broken, the home takes it back, and
+  -- it is dropped where it does not stay
   abbrev pub Returns : Taken C P → X → X → Type 0
   Returns taken x x' =
       (r : Returned C P) × (x1 : X) × Asks outside taken x r x1
       × ((a : Result (PutBackAnswer C) C) × (x2 : X) × Section (λ s at s'. home.steps s at (step.PutsBack r a) s') x1 x2 × AfterReturn outside a x2 x')
 
-  -- a connection is added: it is asked whether it is broken, and the home takes or refuses what is left of it
+  -- a connection is added: it is asked whether it is broken, and the home takes or refuses what is
+  -- left of it
   abbrev pub AddsOutside : C → X → Result (Unit {0}) (AddError C) → X → Type 0
   AddsOutside conn x result x' =
       (broken : Bool) × (after : C) × (x1 : X) × outside.breaks x conn broken after x1
@@ -80,18 +95,58 @@ module _ {C E V P H X : Type 0} (home : HomeOf X C P H) (outside : OutsideOf X C
   abbrev pub ReturnsAndLeaves : Taken C P → X → X → Type 0
   ReturnsAndLeaves taken x x' = (x1 : X) × Returns taken x x1 × HandleLeaves x1 x'
 
+  -- A connection leaves the pool for good: the home ends its record and takes its part. Nothing is
+  -- asked of the connection, and nothing dropped.
+  abbrev pub Detaches : Taken C P → X → X → Type 0
+  Detaches taken x x' =
+      (a : Result DetachAnswer Unfit) × Section (λ s at s'. home.steps s at (step.Detaches taken.key taken.part a) s') x x'
+
+  -- the same of a guard that has a handle, which leaves then
+  abbrev pub DetachesAndLeaves : Taken C P → X → X → Type 0
+  DetachesAndLeaves taken x x' = (x1 : X) × Detaches taken x x1 × HandleLeaves x1 x'
+
+  -- the pool is closed, and then each connection is dropped that the home put into the list
+  abbrev pub ClosesInto : Buffer (Closed C) → X → X → Type 0
+  ClosesInto list x x' =
+      (closed : Buffer (Closed C)) × (a : Result LeaveAnswer Unfit) × (x1 : X)
+      × Section (λ s at s'. home.steps s at (step.Closes list closed a) s') x x1 × DropsEach outside closed.items x1 x'
+
+  -- The pool is closed: all handles leave at once, and what that closes is dropped once the home is
+  -- released. The list for it has room for so many connections; if memory for it is refused they
+  -- are dropped by the home.
+  abbrev pub Closes : ℕ → X → X → Type 0
+  Closes size x x' = (list : Buffer (Closed C)) × IsListFor size list × ClosesInto list x x'
+
+  -- whether the pool is closed: no handle is alive
+  abbrev pub TellsClosed : X → Bool → X → Type 0
+  TellsClosed x closed x' =
+      (seen : Looked) × Section (λ s at s'. home.steps s at (step.Looks seen) s') x x' × (closed ≡ not seen.alive)
+
   -- a get is let go, the home is released, and then the get's handle leaves
   abbrev pub CancelsAndLeaves : Stage C V P → X → X → Type 0
   CancelsAndLeaves stage x x' = (x1 : X) × (x2 : X) × Cancels home outside stage x x1 × home.releases x1 x2 × HandleLeaves x2 x'
 
-  -- a get begins and tries at this moment, the home is released, and the get is let go where it was not answered
+  -- all connections are retired, and then each is dropped that the home put into the list
+  abbrev pub RetiresInto : Buffer (Closed C) → X → X → Type 0
+  RetiresInto list x x' =
+      (a : ReapAnswer) × (offered : Buffer (Closed C)) × (x1 : X)
+      × Section (λ s at s'. home.steps s at (step.Retires list a offered) s') x x1 × DropsEach outside offered.items x1 x'
+
+  -- All connections are retired, and what that closes is dropped once the home is released, as of a
+  -- pool that is closed.
+  abbrev pub Retires : ℕ → X → X → Type 0
+  Retires size x x' = (list : Buffer (Closed C)) × IsListFor size list × RetiresInto list x x'
+
+  -- a get begins and tries at this moment, the home is released, and the get is let go where it was
+  -- not answered
   abbrev pub TriesOnce : Moment → ℕ → X → Result (Option (Taken C P)) (RunError E) → X → Type 0
   TriesOnce m timeout x result x' =
       (settled : Settled C V P E) × (x1 : X) × (x2 : X) × Starts home outside m timeout x settled x1 × home.releases x1 x2
       × Cancels home outside settled.stage x2 x' × (result ≡ served_in settled.answer)
 
-  -- A connection at once, or none: the clock is read, and the home looked at and asked what it has. Where that is nothing idle, it is
-  -- released, and no get begins; else a get tries once, before the home is released.
+  -- A connection at once, or none: the clock is read, and the home looked at and asked what it has.
+  -- Where that is nothing idle, it is released, and no get begins; else a get tries once, before
+  -- the home is released.
   abbrev pub TakesNow : ℕ → X → Result (Option (Taken C P)) (RunError E) → X → Type 0
   TakesNow timeout x result x' =
       (at : Moment) × (x1 : X) × outside.tells x at x1
@@ -102,8 +157,9 @@ module _ {C E V P H X : Type 0} (home : HomeOf X C P H) (outside : OutsideOf X C
 
 -- a get for which a thread waits, over any home and any calls outside
 module _ {C E V P H X : Type 0} (home : HomeOf X C P H) (outside : OutsideOf X C E V) (rests : RestsOf X) where
-  -- What follows a poll before which the bell of the gets had rung so often: where it was pending the home is released, the clock read, and the thread sleeps
-  -- until the bell rings once more, or as long as the get may rest; a get that was answered is let go.
+  -- What follows a poll before which the bell of the gets had rung so often: where it was pending
+  -- the home is released, the clock read, and the thread sleeps until the bell rings once more, or
+  -- as long as the get may rest; a get that was answered is let go.
   abbrev pub AfterPoll : ℕ → Poll (Result (Taken C P) (RunError E)) → Stage C V P → X → X → Type 0
   AfterPoll rings Pending stage x x' =
       (x1 : X) × home.releases x x1

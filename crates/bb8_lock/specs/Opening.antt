@@ -1,4 +1,5 @@
--- Tasks on a pool's lock, which is taken for each of their steps alone, and by the pool's own manager, customizer, error sink and clock.
+-- Tasks on a pool's lock, which is taken for each of their steps alone, and by the pool's own
+-- manager, customizer, error sink and clock.
 use Rattle.std.specs.Prelude.{◌≡◌, None, Result, List}
 use Rattle.bb8_lock.specs.Words.{as_nanos, DebugOf, Poll, CustomizerOf, ManagerOf, SinkOf, ClockOf, StepsIn, OpenerOf, PartsOf, LockScope, Shared}
 use Rattle.bb8_tasks.specs.declared.dedicated.Dedicated.{Dedicated}
@@ -14,15 +15,15 @@ use Rattle.bb8_lock.specs.declared.bell.Rings.{Rings}
 use Rattle.bb8_lock.specs.Bells.{RingsFor}
 use Rattle.bb8_lock.specs.Scope.{Scope, Own, Rung, StartsAt}
 
--- A step on what is held, or else on whatever stands behind the lock, which is taken for it. Its bells are rung. Nothing is held then, and what was
--- noted stays so.
+-- A step on what is held, or else on whatever stands behind the lock, which is taken for it. Its
+-- bells are rung. Nothing is held then, and what was noted stays so.
 abbrev pub Visits : {S T C : Type 0} → (S → Rings → Type 0) → (T → T → Type 0) → TaskStep C → LockScope S T → LockScope S T → Type 0
 Visits {T = T} Rung Step s x x' =
     ((t : T) × (t' : T) × StartsAt x.held t × Step t t') × RingsFor (Rung x.shared.now) s
     × (x'.held ≡ None) × (x'.rings ≡ x.rings) × (x'.shared ≡ x.shared)
 
--- What a pool does with its tasks, of which handles and guards share this: on the pool's lock, and by its own manager, customizer, error sink and
--- clock.
+-- What a pool does with its tasks, of which handles and guards share this: on the pool's lock, and
+-- by its own manager, customizer, error sink and clock.
 module _ {G L M S Z K R C E N V A : Type 0} {m : ManagerOf M C E N V} {d : DebugOf E} {s : SinkOf S E} {z : CustomizerOf Z C E A} {k : ClockOf K} {l : PartsOf L}
     (shared : Shared G L M S Z K R C E N V A m d s z k l) where
   -- the relations of the lock as a home of tasks

@@ -10,7 +10,8 @@ use Rattle.bb8_ledger.specs.Ledger.{Later, opening_with}
 use Rattle.bb8_ledger.specs.Table.{Allowed}
 use Rattle.bb8_core.specs.StateView.{StateView, Represents}
 
--- The blank of a pool with these settings: it has a name, and a part for each connection; the parts are those of such a pool.
+-- The blank of a pool with these settings: it has a name, and a part for each connection; the parts
+-- are those of such a pool.
 pub record IsBlankOf (blank : Blank) (settings : Settings) (name parts : ℕ) (of : Settings) : Type 0 where
   pub named : blank.name ≡ name
   pub cut : blank.parts ≡ parts
@@ -21,7 +22,8 @@ pub record IsBlankOf (blank : Blank) (settings : Settings) (name parts : ℕ) (o
 abbrev pub unchecked_of : ℕ → Settings
 unchecked_of size = record default_settings { max_size = size; test_on_check_out = false }
 
--- A pool's state begins as this is granted for its first connections, claimed or not. Nothing of it was withheld.
+-- A pool's state begins as this is granted for its first connections, claimed or not. Nothing of it
+-- was withheld.
 abbrev pub PoolBegins : {C : Type 0} → Settings → Bool → ℕ → Grant → StateView C → Type 0
 PoolBegins {C} settings claimed at grant s =
     (grant.withheld ≡ 0) × Allowed {C = C} (opening_with settings 0 0) at (Fill claimed) (Granted grant)

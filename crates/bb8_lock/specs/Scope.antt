@@ -1,17 +1,18 @@
--- What gets, guards and handles do on a pool: the tables at what a pool's lock holds, while it is held, and at the pool's own manager, error sink
--- and clock.
-use Rattle.std.specs.Prelude.{◌≡◌, ℕ, eqb, None, Option, Some, Result, Ok, Err, ⊤}
+-- What gets, guards and handles do on a pool: the tables at what a pool's lock holds, while it is
+-- held, and at the pool's own manager, error sink and clock.
+use Rattle.std.specs.Prelude.{◌≡◌, ℕ, eqb, None, Option, Some, Result, Ok, Err, ⊤, Bool}
 use Rattle.bb8_lock.specs.Words.{MutexGuard, DebugOf, Poll, Ready, Pending, AddError, RunError, State, ManagerOf, SinkOf, CustomizerOf, ClockOf, settings_of, HomeOf, Taken, OutsideOf, Stage, Joining, Locked, Part, PartsOf, LockScope, Shared, GetPolls, Cancels}
 use Rattle.std.specs.Sync.Mutex.{mutex_guard_value}
 use Rattle.bb8_lock.specs.declared.bell.Rings.{Rings}
 use Rattle.bb8_lock.specs.Bells.{get_bells, joined, silent}
-use Rattle.bb8_lock.specs.Chains.{AddsOutside, Answers, CancelsAndLeaves, Joins, HandleLeaves, Returns, ReturnsAndLeaves, Shows, TakesNow, Waits}
+use Rattle.bb8_lock.specs.Chains.{AddsOutside, Answers, CancelsAndLeaves, Joins, HandleLeaves, Returns, ReturnsAndLeaves, Retires, Shows, TakesNow, Waits, Closes, Detaches, DetachesAndLeaves, TellsClosed}
 use Rattle.bb8_gets.specs.Steps.{StepsBy}
 use Rattle.bb8_lock.specs.declared.bell.Rests.{Ghosts as RestsOf}
 use Rattle.bb8_lock.specs.declared.handle.Handle.{Handle}
 
 module _ {T : Type 0} where
-  -- a step starts at this: at what is held, or, where nothing is, at whatever stands behind the lock
+  -- a step starts at this: at what is held, or, where nothing is, at whatever stands behind the
+  -- lock
   abbrev pub StartsAt : Option (MutexGuard T) → T → Type 0
   StartsAt (Some guard) t = mutex_guard_value guard ≡ t
   StartsAt None t = ⊤
@@ -31,8 +32,8 @@ module _ {S T : Type 0} where
   abbrev pub IsScopeOf : S → LockScope S T → Type 0
   IsScopeOf shared x = (x.shared.now ≡ shared) × (x.held ≡ None) × (x.rings ≡ silent)
 
-  -- A step leads from what is held, or else stands behind the lock, to what is held then. Its bells, which may depend on that, are noted beside
-  -- those that were, and no others.
+  -- A step leads from what is held, or else stands behind the lock, to what is held then. Its
+  -- bells, which may depend on that, are noted beside those that were, and no others.
   abbrev pub Leads : (T → T → Type 0) → (T → Rings) → LockScope S T → LockScope S T → Type 0
   Leads Step its_bells x x' =
       LeadsHeld (λ t t'. Step t t' × (x'.rings ≡ joined (its_bells t') x.rings)) x.held x'.held × (x'.shared ≡ x.shared)
@@ -41,7 +42,8 @@ module _ {S T : Type 0} where
   abbrev pub Frees : (S → Rings → Type 0) → LockScope S T → LockScope S T → Type 0
   Frees Rung x x' = Rung x.shared.now x.rings × (x'.held ≡ None) × (x'.rings ≡ silent) × (x'.shared ≡ x.shared)
 
--- What the gets, guards and handles of a pool do, which share this: on the pool's lock, and by its own manager, error sink and clock.
+-- What the gets, guards and handles of a pool do, which share this: on the pool's lock, and by its
+-- own manager, error sink and clock.
 module _ {G L M S Z K R C E N V A : Type 0} {m : ManagerOf M C E N V} {d : DebugOf E} {s : SinkOf S E} {z : CustomizerOf Z C E A} {k : ClockOf K} {l : PartsOf L}
     (shared : Shared G L M S Z K R C E N V A m d s z k l) where
   -- the pool's lock with what the pool calls outside
@@ -56,8 +58,9 @@ module _ {G L M S Z K R C E N V A : Type 0} {m : ManagerOf M C E N V} {d : Debug
   abbrev pub Own : (Scope → Scope → Type 0) → Type 0
   Own Does = (x : Scope) × (x' : Scope) × IsScopeOf shared x × Does x x'
 
-  -- The relations of the lock as a home. While it is held each step starts where the one before ended; once it was let go, the next one starts at
-  -- whatever stands behind it. What a step answers follows from that very state, which keeps the limits.
+  -- The relations of the lock as a home. While it is held each step starts where the one before
+  -- ended; once it was let go, the next one starts at whatever stands behind it. What a step
+  -- answers follows from that very state, which keeps the limits.
   abbrev pub gets : HomeOf Scope C (Part L) Handle
   gets = record {
     releases = λ x x'. Frees Rung x x';
@@ -110,6 +113,13 @@ module _ {G L M S Z K R C E N V A : Type 0} {m : ManagerOf M C E N V} {d : Debug
   abbrev pub OwnReturnsAndLeaves : Taken C (Part L) → Type 0
   OwnReturnsAndLeaves taken = Own (ReturnsAndLeaves gets calls taken)
 
+  -- A guard's connection leaves the pool for good; where the guard has a handle, that leaves then.
+  abbrev pub OwnDetaches : Taken C (Part L) → Type 0
+  OwnDetaches taken = Own (Detaches gets calls taken)
+
+  abbrev pub OwnDetachesAndLeaves : Taken C (Part L) → Type 0
+  OwnDetachesAndLeaves taken = Own (DetachesAndLeaves gets calls taken)
+
   -- one handle more is made or refused, and one leaves
   abbrev pub OwnJoins : Joining Handle → Type 0
   OwnJoins answer = Own (λ x x'. Joins gets calls x answer x')
@@ -117,9 +127,20 @@ module _ {G L M S Z K R C E N V A : Type 0} {m : ManagerOf M C E N V} {d : Debug
   abbrev pub OwnLeaves : Type 0
   OwnLeaves = Own (HandleLeaves gets calls)
 
+  -- the pool is closed, with a list for `max_size` connections, and it tells whether it is
+  abbrev pub OwnCloses : Type 0
+  OwnCloses = Own (Closes gets calls (settings_of shared.config).max_size)
+
+  abbrev pub OwnTellsClosed : Bool → Type 0
+  OwnTellsClosed closed = Own (λ x x'. TellsClosed gets calls x closed x')
+
   -- a connection is added
   abbrev pub OwnAdds : C → Result (Unit {0}) (AddError C) → Type 0
   OwnAdds conn result = Own (λ x x'. AddsOutside gets calls conn x result x')
+
+  -- all connections are retired, with a list for `max_size` connections
+  abbrev pub OwnRetires : Type 0
+  OwnRetires = Own (Retires gets calls (settings_of shared.config).max_size)
 
   -- the pool tells of itself
   abbrev pub OwnShows : State → Type 0

@@ -1,4 +1,5 @@
-//! A lock with bells: a thread that waits for what another one does under the lock sleeps until a bell is rung.
+//! A lock with bells: a thread that waits for what another one does under the lock sleeps until a
+//! bell is rung.
 
 ghost use Rattle.std.specs.Prelude.{◌≡◌, ℕ};
 ghost use Rattle.std.specs.Duration.{as_nanos};
@@ -25,7 +26,7 @@ pub struct Bell {
 #[derive(Drop)]
 pub struct Belled<T> {
     pub(crate) lock: Mutex<T>,
-    /// Rung where a waiting get was notified.
+    /// Rung where a waiting get was notified, or the pool was closed.
     pub gets: Bell,
     /// Rung where an approval was granted, or no handle is alive any more.
     pub drivers: Bell,
@@ -45,7 +46,8 @@ pub trait Rests {
     // Holds before the count of the rings of a sleeper's bell is read, of the count, and after it.
     ghost counts: { Self → SleeperOf → ℕ → Self → Type 0 };
 
-    // Holds before a sleep that a ring of the sleeper's bell past this count ends, of the nanoseconds that it lasts at most, and after it.
+    // Holds before a sleep that a ring of the sleeper's bell past this count ends, of the
+    // nanoseconds that it lasts at most, and after it.
     ghost sleeps: { Self → SleeperOf → ℕ → ℕ → Self → Type 0 };
 
     /// How often the sleeper's bell was rung.
@@ -85,8 +87,8 @@ impl Bell {
         }
     }
 
-    /// How often the bell was rung, wrapping. Who reads it before the look at what it waits for loses no ring between the look and its
-    /// sleep.
+    /// How often the bell was rung, wrapping. Who reads it before the look at what it waits for
+    /// loses no ring between the look and its sleep.
     pub fn rings(&self) -> u64 {
         self.rung.notifications()
     }
@@ -97,7 +99,8 @@ impl Bell {
         self.rung.notify_all();
     }
 
-    /// Sleeps until the bell was rung more often than so often, and so long at most. It may end early.
+    /// Sleeps until the bell was rung more often than so often, and so long at most. It may end
+    /// early.
     pub fn sleep<R: Wait>(&self, rt: &R, rings: u64, most: Duration) {
         self.rung.sleep(rt, rings, most);
     }
@@ -151,8 +154,8 @@ impl Rings {
         }
     }
 
-    /// That of the gets where a get was notified, which may be served at its next poll. That of the drivers where approvals were granted, which a
-    /// driver claims at its next turn.
+    /// That of the gets where a get was notified, which may be served at its next poll. That of the
+    /// drivers where approvals were granted, which a driver claims at its next turn.
     #[inline(always)]
     pub(crate) fn of(notified: Option<GetKey>, granted: u32) -> Self
         ensures { result ≡ bells (notified_of notified) granted }
@@ -171,6 +174,15 @@ impl Rings {
         let more = Rings::of(notified, granted);
         self.gets = more.gets | self.gets;
         self.drivers = more.drivers | self.drivers;
+    }
+
+    /// Both besides, if no handle is alive any more: waiting gets and drivers end then.
+    #[inline(always)]
+    pub(crate) fn note_over(&mut self, over: bool)
+        ensures { self.new ≡ joined (record { gets = over; drivers = over }) self.old }
+    {
+        self.gets = over | self.gets;
+        self.drivers = over | self.drivers;
     }
 
     /// Those of a try besides.

@@ -4,7 +4,8 @@ use bb8_core::api::{Clock, CustomizeConnection, ErrorSink, ManageConnection};
 use std::fmt::Debug;
 use std::marker::PhantomData;
 
-/// What a pool is given from outside, and the types that come with it. `These` is the one implementer.
+/// What a pool is given from outside, and the types that come with it. `These` is the one
+/// implementer.
 pub trait Given: Drop + 'static {
     /// The manager.
     type Manager: ManageConnection<
@@ -46,7 +47,8 @@ pub trait Given: Drop + 'static {
     type Acquiring: Send + Drop + 'static;
 }
 
-/// A manager, an error sink, a customizer, a clock and a runtime, as one type, of which there is no value.
+/// A manager, an error sink, a customizer, a clock and a runtime, as one type, of which there is no
+/// value.
 #[derive(Drop)]
 pub struct These<M, S, Z, K, R> {
     which: PhantomData<(M, S, Z, K, R)>,

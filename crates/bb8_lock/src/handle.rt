@@ -1,8 +1,8 @@
 //! The handles of a pool, and what drivers end by.
 ghost use Rattle.std.specs.Prelude.{◌≡◌, Bool};
 
-/// A handle that is alive. The opening of a pool and `GetHome::join` make one, and `GetHome::leave` alone takes one: it cannot be
-/// dropped.
+/// A handle that is alive. The opening of a pool and `GetHome::join` make one, and `GetHome::leave`
+/// alone takes one: it cannot be dropped.
 pub struct Handle {
     pub(crate) _alive: (),
 }

@@ -1,6 +1,8 @@
-//! What a pool's lock holds as a home of gets, guards and handles: what is done to it under one taking of the lock.
+//! What a pool's lock holds as a home of gets, guards and handles: what is done to it under one
+//! taking of the lock.
 //!
-//! A section is lent the state, and asks for one step. No manager, customizer, sink or clock is called here.
+//! A section is lent the state, and asks for one step. No manager, customizer, sink or clock is
+//! called here.
 ghost use Rattle.std.specs.Prelude.{◌≡◌, ◌+◌, ◌≤◌, IfOk, Some};
 ghost use Rattle.bb8_ledger.specs.Acts as acts;
 ghost use Rattle.bb8_core.specs.Unfit.{OrComesBack, Stepped};
@@ -14,13 +16,15 @@ use crate::handle::Handle;
 use crate::locked::{Locked, Part, Parts};
 use bb8_core::api::{Moment, State};
 use bb8_core::internals::{
-    AddAnswer, AtOnce, CheckedErrAnswer, GetKey, GiveUpAnswer, JoinAnswer, Key, LeaveAnswer,
-    Looked, PoolInternals, PutBackAnswer, Reason, Started, TryAnswer, Unfit,
+    AddAnswer, AtOnce, CheckedErrAnswer, ClosedList, DetachAnswer, GetKey, GiveUpAnswer,
+    JoinAnswer, Key, LeaveAnswer, Looked, PoolInternals, PutBackAnswer, ReapAnswer, Reason,
+    Started, TryAnswer, Unfit,
 };
 use bb8_gets::{FirstTry, GetHome, Joining, Passed, Returned, Taken, Tried};
 use std::sync::ledger::Share;
 
-/// A try's answer, where one of the parts goes with a connection. The state already has it out, and within the size.
+/// A try's answer, where one of the parts goes with a connection. The state already has it out, and
+/// within the size.
 #[inline(always)]
 fn hand_out<C: Drop, L: Parts>(
     core: &PoolInternals<C>,
@@ -74,7 +78,8 @@ impl<C: Drop, L: Parts> Locked<C, L> {
     }
 }
 
-/// Each step leads from the state that stands there to the next one. A connection goes out with one of the parts, and comes back with it.
+/// Each step leads from the state that stands there to the next one. A connection goes out with one
+/// of the parts, and comes back with it.
 impl<C: Drop, L: Parts> GetHome<C> for Locked<C, L> {
     type Part = Part<L>;
 
@@ -252,5 +257,26 @@ impl<C: Drop, L: Parts> GetHome<C> for Locked<C, L> {
         let Locked { core, .. } = self;
         let Handle { _alive: () } = handle;
         core.leave(at)
+    }
+
+    fn retire(&mut self, at: Moment, closed: &mut ClosedList<C>) -> ReapAnswer {
+        let Locked { core, .. } = self;
+        core.retire_into(at, closed)
+    }
+
+    fn detach(&mut self, at: Moment, key: Key, part: Part<L>) -> Result<DetachAnswer, Unfit> {
+        let Locked { core, rest, .. } = self;
+        let answer = core.detach(at, key);
+        part.settle(rest, &answer);
+        answer
+    }
+
+    fn close(&mut self, at: Moment, closed: &mut ClosedList<C>) -> Result<LeaveAnswer, Unfit> {
+        let Locked { core, .. } = self;
+        core.limits();
+        if !core.fits_close() {
+            return Err(Unfit);
+        }
+        Ok(core.close_into(at, closed))
     }
 }

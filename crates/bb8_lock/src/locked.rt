@@ -11,8 +11,9 @@ use std::alloc::Global;
 use std::marker::Brand;
 use std::sync::ledger::{Blank, Ledger, Share, Total};
 
-/// The parts by which the connections of one pool are counted, as many as its `max_size`, and the settings of that pool. They tie what the
-/// lock holds to what stands beside the lock: of one pool's parts there is one value of settings.
+/// The parts by which the connections of one pool are counted, as many as its `max_size`, and the
+/// settings of that pool. They tie what the lock holds to what stands beside the lock: of one
+/// pool's parts there is one value of settings.
 pub trait Parts: Ledger {
     // The settings of the pool that the parts are of.
     ghost settings: { Settings };
@@ -27,8 +28,9 @@ pub trait PoolParts: Parts + Send + Sync {}
 
 impl PoolParts for Brand {}
 
-/// What the lock holds: the state, which has the pool's settings, and the parts that go with no connection. Each connection that is out has
-/// one part with it, so parts and connections out are together as many as `max_size`.
+/// What the lock holds: the state, which has the pool's settings, and the parts that go with no
+/// connection. Each connection that is out has one part with it, so parts and connections out are
+/// together as many as `max_size`.
 #[derive(Drop)]
 pub struct Locked<C, L: Parts> {
     pub(crate) core: PoolInternals<C>,
@@ -58,7 +60,8 @@ impl<L: Parts> Part<L> {
         Part { share }
     }
 
-    /// The part joins the rest where its connection was taken back, and is let go where that did not fit.
+    /// The part joins the rest where its connection was taken back, and is let go where that did
+    /// not fit.
     #[inline(always)]
     pub(crate) fn settle<C, A>(self, rest: &mut Share<L>, answer: &Result<A, C>)
         ensures parts { rest.new.parts ≡ rest.old.parts + come_back answer.now }
@@ -84,7 +87,8 @@ pub struct NewPool<C, L: Parts> {
     pub grant: Grant,
 }
 
-/// Lays out the parts of a new pool beside its state, which has nothing out; the total says how many there are.
+/// Lays out the parts of a new pool beside its state, which has nothing out; the total says how
+/// many there are.
 fn lay_out_parts<C: Drop, L: Parts>(
     core: PoolInternals<C>,
     blank: Blank,
@@ -102,8 +106,9 @@ fn lay_out_parts<C: Drop, L: Parts>(
     (book.close(), Locked { core, rest })
 }
 
-/// A new pool with one handle: its lock holds the state with the pool's settings, its first approvals, which are claimed or not, and its
-/// parts. It fails where memory for an approval is refused.
+/// A new pool with one handle: its lock holds the state with the pool's settings, its first
+/// approvals, which are claimed or not, and its parts. It fails where memory for an approval is
+/// refused.
 pub fn begin_pool<C: Drop, L: Parts>(
     alloc: Global,
     config: Config,

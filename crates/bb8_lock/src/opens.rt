@@ -1,11 +1,12 @@
-//! What a pool's lock holds as a home of the tasks that open connections, of its driver, and of its reaper.
+//! What a pool's lock holds as a home of the tasks that open connections, of its driver, and of its
+//! reaper.
 ghost use Rattle.bb8_gets.specs.Homes.{StepsIn};
 ghost use Rattle.bb8_tasks.specs.Homes.{TaskStepsBy};
 
 use crate::locked::{Locked, Parts};
 use bb8_core::api::Moment;
 use bb8_core::internals::{
-    ClaimAnswer, FailedAnswer, Key, Looked, OpenedAnswer, ReapAnswer, Unfit,
+    ClaimAnswer, FailedAnswer, Grant, Key, Looked, OpenedAnswer, ReapAnswer, Unfit,
 };
 use bb8_gets::GetHome;
 use bb8_tasks::Home;
@@ -37,5 +38,10 @@ impl<C: Drop, L: Parts> Home<C> for Locked<C, L> {
     fn reap(&mut self, at: Moment) -> ReapAnswer {
         let Locked { core, .. } = self;
         core.reap(at)
+    }
+
+    fn ask(&mut self, at: Moment) -> Grant {
+        let Locked { core, .. } = self;
+        core.ask(at)
     }
 }

@@ -9,7 +9,8 @@ use futures::task::Poll;
 use std::sync::Wait;
 use std::time::Duration;
 
-/// Each relation is the user's own, and no call changes what is called, nor whether the lock is held.
+/// Each relation is the user's own, and no call changes what is called, nor whether the lock is
+/// held.
 impl<G: Given, L: Parts> Outside<G::Connection, G::Error>
     for LockScope<'_, Shared<G, L>, Locked<G::Connection, L>> {
     type Checking = G::Checking;

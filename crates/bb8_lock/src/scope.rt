@@ -1,4 +1,5 @@
-//! A pool's lock as a home of gets, guards and handles, and of the tasks that open connections, of the driver and of the reaper.
+//! A pool's lock as a home of gets, guards and handles, and of the tasks that open connections, of
+//! the driver and of the reaper.
 ghost use Rattle.std.specs.Prelude.{◌≡◌, None, ⊤};
 ghost use Rattle.bb8_gets.specs.Steps.{Fails, GivesBack, PutsBack};
 ghost use Rattle.bb8_lock.specs.Bells.{get_bells};
@@ -11,15 +12,17 @@ use crate::locks::Locks;
 use crate::{Given, Locked, Parts, Shared};
 use bb8_core::api::{Moment, State};
 use bb8_core::internals::{
-    AddAnswer, CheckedErrAnswer, ClaimAnswer, FailedAnswer, GetKey, GiveUpAnswer, Key, LeaveAnswer,
-    Looked, OpenedAnswer, PutBackAnswer, ReapAnswer, Reason, Unfit,
+    AddAnswer, CheckedErrAnswer, ClaimAnswer, ClosedList, DetachAnswer, FailedAnswer, GetKey,
+    GiveUpAnswer, Grant, Key, LeaveAnswer, Looked, OpenedAnswer, PutBackAnswer, ReapAnswer, Reason,
+    Unfit,
 };
 use bb8_gets::{FirstTry, GetHome, Joining, LetGo, Passed, Returned, Taken, Tried};
 use bb8_tasks::Home;
 use std::sync::MutexGuard;
 
-/// A lock with what is called outside of it. It is taken at a step where it is not held, and held until it is released. After the release the
-/// bells are rung, each once, for which a step since then gave cause.
+/// A lock with what is called outside of it. It is taken at a step where it is not held, and held
+/// until it is released. After the release the bells are rung, each once, for which a step since
+/// then gave cause.
 pub struct LockScope<'a, S: Locking<T>, T> {
     pub(crate) shared: &'a S,
     held: Option<MutexGuard<'a, T>>,
@@ -271,6 +274,34 @@ impl<C, S: Locking<T>, T: GetHome<C> + Ends> GetHome<C> for LockScope<'_, S, T> 
         self.held = Some(guard);
         answer
     }
+
+    fn retire(&mut self, at: Moment, closed: &mut ClosedList<C>) -> ReapAnswer {
+        let mut guard = self.hold();
+        let answer = guard.retire(at, closed);
+        self.held = Some(guard);
+        if let ReapAnswer::Reaped { grant, .. } = &answer {
+            self.rings.note(None, grant.count);
+        }
+        answer
+    }
+
+    fn detach(&mut self, at: Moment, key: Key, part: T::Part) -> Result<DetachAnswer, Unfit> {
+        let mut guard = self.hold();
+        let answer = guard.detach(at, key, part);
+        self.held = Some(guard);
+        if let Ok(DetachAnswer::Detached(grant, told)) = &answer {
+            self.rings.note(*told, grant.count);
+        }
+        answer
+    }
+
+    fn close(&mut self, at: Moment, closed: &mut ClosedList<C>) -> Result<LeaveAnswer, Unfit> {
+        let mut guard = self.hold();
+        let answer = guard.close(at, closed);
+        self.rings.note_over(guard.is_over());
+        self.held = Some(guard);
+        answer
+    }
 }
 
 /// The lock is taken for each step, and is free again when the step has answered.
@@ -309,5 +340,10 @@ impl<C, S: Locking<T>, T: Home<C>> Home<C> for LockScope<'_, S, T> {
     fn reap(&mut self, at: Moment) -> ReapAnswer {
         let mut guard = self.hold();
         guard.reap(at)
+    }
+
+    fn ask(&mut self, at: Moment) -> Grant {
+        let mut guard = self.hold();
+        guard.ask(at)
     }
 }

@@ -9,8 +9,9 @@ use futures::task::Poll;
 use std::sync::Wait;
 use std::time::Duration;
 
-/// A get that has so much time is polled until it answers. Between two polls the thread sleeps until the bell is rung, and no longer than the
-/// get may rest. The count of the rings is read before the poll, so that no ring between the poll and the sleep is lost.
+/// A get that has so much time is polled until it answers. Between two polls the thread sleeps
+/// until the bell is rung, and no longer than the get may rest. The count of the rings is read
+/// before the poll, so that no ring between the poll and the sleep is lost.
 pub fn wait<C, V, P, E, X: GetHome<C, Part = P> + Outside<C, E, Checking = V> + Rests, R: Wait>(
     pool: &mut X,
     rt: &R,

@@ -1,6 +1,8 @@
 //! What the tests share.
 
+mod closing;
 mod drivers;
+mod outages;
 mod polls;
 mod resting;
 mod serving;

@@ -1,6 +1,7 @@
-//! Runs in which memory is refused: the Nth request for it of each test, or all from the Nth on. They hold with a refusal and without.
-//! `gate/refusals/run`, at the top of the repository, makes them for every N. What they share: connections whose board counts each one's drops, and
-//! what tells whether a run met a refusal.
+//! Runs in which memory is refused: the Nth request for it of each test, or all from the Nth on.
+//! They hold with a refusal and without. `gate/refusals/run`, at the top of the repository, makes
+//! them for every N. What they share: connections whose board counts each one's drops, and what
+//! tells whether a run met a refusal.
 
 mod bare;
 mod live;
@@ -24,7 +25,8 @@ fn is_refused(alloc: Global) -> bool {
     Box::new(alloc, 0_u8).is_err()
 }
 
-/// Whether the run that has ended is known to have met no refusal: the first request after it is granted, and the second is refused.
+/// Whether the run that has ended is known to have met no refusal: the first request after it is
+/// granted, and the second is refused.
 fn is_refused_afterwards(alloc: Global) -> bool {
     !is_refused(alloc) && is_refused(alloc)
 }

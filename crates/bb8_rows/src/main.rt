@@ -1,6 +1,7 @@
-//! Runs worked scripts: standard input has transcripts, each a title and a script with its answers beside it. Where one is answered
-//! otherwise, its title, the line, what was wanted there and what was found are written to standard output; then how many there are.
-//! The format is in docs/SCRIPTS.md.
+//! Runs worked scripts: standard input has transcripts, each a title and a script with its answers
+//! beside it. Where one is answered otherwise, its title, the line, what was wanted there and what
+//! was found are written to standard output; then how many there are. The format is in
+//! docs/SCRIPTS.md.
 #![tactic(auto)]
 
 use bb8_runner::fault::Fault;
@@ -26,7 +27,8 @@ impl Answers for Bare {
     }
 }
 
-/// Ends with the status of what came of the transcripts, and with a word on standard error where that is a fault.
+/// Ends with the status of what came of the transcripts, and with a word on standard error where
+/// that is a fault.
 fn main(rt: HostRuntime) -> io::Result<ExitCode> {
     let came = run(rt.alloc(), &Bare, &mut rt.reader(), &mut io::writer(&rt));
     if let Err(fault) = &came {

@@ -3,7 +3,8 @@
 use super::{Bare, run};
 use std::test::Fail;
 
-/// One transcript that is answered as it says, and one whose third answer is wrong, and the fourth, too.
+/// One transcript that is answered as it says, and one whose third answer is wrong, and the fourth,
+/// too.
 const WRONG_ANSWER: &[u8] = b"\
     what stands before the first title is no transcript\n\
     == nothing happens\n\
@@ -22,7 +23,8 @@ const WRONG_ANSWER_TOLD: &[u8] = b"\
     line 11, one is added twice: wanted \"added 2\", found \"added 1\"\n\
     transcripts 2 answers 5 not run 0 different 1\n";
 
-/// A transcript without its state line, one of a bad line with an answer too many, one with a line too many, and one that is not run.
+/// A transcript without its state line, one of a bad line with an answer too many, one with a line
+/// too many, and one that is not run.
 const WRONG_LENGTH: &[u8] = b"\
     == no state line\n\
     config\n\

@@ -1,5 +1,5 @@
 -- A configuration is read from the fields that spell it, and from no others.
-use Rattle.bb8_runner.proofs.Speech.{◌≡◌, ◌≢◌, ℕ, ◌+◌, ◌^◌, ◌<◌, Bool, true, false, cond, not, eqb, List, [], ◌∷◌, ◌++◌, length, get_or, map, Option, Some, None, option_map, refl, sym, ap, subst, ◌∙◌, arith, codes, length-append, decimal, position_or_len, before_first, after_first, bytes_eq, IsUtf8, false≢true, Decides-eqb, All-head, All-tail, bytes_eq-Decides, QueueStrategy, Fifo, Lifo, Settings, is_lawful, Overrides, ◌>>=◌, fields_of, Setting, MaxSize, MinIdle, Check, Lifetime, Idle, Timeout, Reaper, Retry, Strategy, name_of, value_of, limit_text, switch_text, strategy_text, setting_field, FitsSetting, FitsLimit, AllFit, LacksName, AreDistinct, made, all_made, SpellsSettings, ◌⊎◌, inl, inr, number_of, on_or_off, strategy_of, once, nothing_set, settings_from, if_lawful, settings_of_line}
+use Rattle.bb8_runner.proofs.Speech.{◌≡◌, ◌≢◌, ℕ, ◌+◌, ◌^◌, ◌<◌, Bool, true, false, cond, not, eqb, List, [], ◌∷◌, ◌++◌, length, get_or, map, Option, Some, None, option_map, refl, sym, ap, subst, ◌∙◌, arith, codes, length-append, decimal, position_or_len, before_first, after_first, bytes_eq, IsUtf8, false≢true, Decides-eqb, All-head, All-tail, bytes_eq-Decides, QueueStrategy, Fifo, Lifo, Settings, is_lawful, Overrides, ◌>>=◌, fields_of, Setting, MaxSize, MinIdle, Check, TestAfter, Lifetime, Idle, Timeout, Reaper, Retry, Strategy, name_of, value_of, limit_text, switch_text, strategy_text, setting_field, FitsSetting, FitsLimit, AllFit, LacksName, AreDistinct, made, all_made, SpellsSettings, ◌⊎◌, inl, inr, number_of, on_or_off, strategy_of, once, nothing_set, settings_from, if_lawful, settings_of_line}
 use Rattle.bb8_runner.specs.Opening.{cut, limit_of, overrides_from, settings_of_fields, with_setting}
 use Rattle.std.proofs.Math.Seq.{take-append_seam, drop-append-add}
 use Rattle.std.proofs.lemmas.List.Sums.{split_at_first, passes_at_first, prefix_len-le-length}
@@ -44,6 +44,7 @@ abbrev set : Overrides → Setting → Overrides
 set o (MaxSize n) = record o { max_size = Some n }
 set o (MinIdle n) = record o { min_idle = Some n }
 set o (Check b) = record o { check = Some b }
+set o (TestAfter n) = record o { test_after = Some n }
 set o (Lifetime v) = record o { lifetime = Some v }
 set o (Idle v) = record o { idle = Some v }
 set o (Timeout v) = record o { timeout = Some v }
@@ -69,6 +70,7 @@ abbrev IsUnset : Overrides → Setting → Type 0
 IsUnset o (MaxSize n) = o.max_size ≡ None
 IsUnset o (MinIdle n) = o.min_idle ≡ None
 IsUnset o (Check b) = o.check ≡ None
+IsUnset o (TestAfter n) = o.test_after ≡ None
 IsUnset o (Lifetime v) = o.lifetime ≡ None
 IsUnset o (Idle v) = o.idle ≡ None
 IsUnset o (Timeout v) = o.timeout ≡ None
@@ -83,12 +85,14 @@ AreUnset o (x ∷ xs) = IsUnset o x × AreUnset o xs
 apart : (xs ys : List ℕ) → bytes_eq xs ys ≡ false → xs ≢ ys
 apart xs ys h w = false≢true (sym h ∙ (bytes_eq-Decides xs ys).1 w)
 
--- of two settings either the names are the same, and the other is set with the one, or the one leaves the other as it was
+-- of two settings either the names are the same, and the other is set with the one, or the one
+-- leaves the other as it was
 both : (o : Overrides) (x y : Setting) → ((name_of x ≡ name_of y) × (IsUnset (set o x) y → ⊥))
     ⊎ ((name_of x ≢ name_of y) × (IsUnset (set o x) y → IsUnset o y) × (IsUnset o y → IsUnset (set o x) y))
 both o (MaxSize m) (MaxSize n) = inl (refl, λ u. cc)
 both o (MinIdle m) (MinIdle n) = inl (refl, λ u. cc)
 both o (Check m) (Check n) = inl (refl, λ u. cc)
+both o (TestAfter m) (TestAfter n) = inl (refl, λ u. cc)
 both o (Lifetime m) (Lifetime n) = inl (refl, λ u. cc)
 both o (Idle m) (Idle n) = inl (refl, λ u. cc)
 both o (Timeout m) (Timeout n) = inl (refl, λ u. cc)
@@ -124,6 +128,7 @@ setting_read o (MaxSize n) h u = rw (u, number_read 32 n h (omega (arith, h))) r
 setting_read o (MinIdle (Some n)) h u = rw (u, no_word n (omega (arith, h)), number_read 32 n h (omega (arith, h))) refl
 setting_read o (Lifetime (Some n)) h u = rw (u, no_word n h, number_read 64 n h h) refl
 setting_read o (Idle (Some n)) h u = rw (u, no_word n h, number_read 64 n h h) refl
+setting_read o (TestAfter n) h u = rw (u, number_read 64 n h h) refl
 setting_read o (Timeout n) h u = rw (u, number_read 64 n h h) refl
 setting_read o (Reaper n) h u = rw (u, number_read 64 n h h) refl
 setting_read o (Check true) h u = rw u refl
@@ -219,13 +224,14 @@ setting_spelled o name value q =
     arm name (codes "max_size") _ _ q R (set_by o name value q MaxSize (λ v. record o { max_size = v }) o.max_size (number_of 32 value) _ (λ v. (refl, refl, λ u. u)) (number_spelled 32 value)) (
     arm name (codes "min_idle") _ _ q R (set_by o name value q MinIdle (λ v. record o { min_idle = v }) o.min_idle (limit_of 32 value) _ (λ v. (refl, refl, λ u. u)) (limit_spelled 32 value)) (
     arm name (codes "check") _ _ q R (set_by o name value q Check (λ v. record o { check = v }) o.check (on_or_off value) _ (λ v. (refl, refl, λ u. u)) (λ v e. (tt, switch_spelled value v e))) (
+    arm name (codes "test_after") _ _ q R (set_by o name value q TestAfter (λ v. record o { test_after = v }) o.test_after (number_of 64 value) _ (λ v. (refl, refl, λ u. u)) (number_spelled 64 value)) (
     arm name (codes "lifetime") _ _ q R (set_by o name value q Lifetime (λ v. record o { lifetime = v }) o.lifetime (limit_of 64 value) _ (λ v. (refl, refl, λ u. u)) (limit_spelled 64 value)) (
     arm name (codes "idle") _ _ q R (set_by o name value q Idle (λ v. record o { idle = v }) o.idle (limit_of 64 value) _ (λ v. (refl, refl, λ u. u)) (limit_spelled 64 value)) (
     arm name (codes "timeout") _ _ q R (set_by o name value q Timeout (λ v. record o { timeout = v }) o.timeout (number_of 64 value) _ (λ v. (refl, refl, λ u. u)) (number_spelled 64 value)) (
     arm name (codes "reaper") _ _ q R (set_by o name value q Reaper (λ v. record o { reaper = v }) o.reaper (number_of 64 value) _ (λ v. (refl, refl, λ u. u)) (number_spelled 64 value)) (
     arm name (codes "retry") _ _ q R (set_by o name value q Retry (λ v. record o { retry = v }) o.retry (on_or_off value) _ (λ v. (refl, refl, λ u. u)) (λ v e. (tt, switch_spelled value v e))) (
     arm name (codes "strategy") _ _ q R (set_by o name value q Strategy (λ v. record o { strategy = v }) o.strategy (strategy_of value) _ (λ v. (refl, refl, λ u. u)) (λ v e. (tt, strategy_spelled value v e))) (
-    λ e. absurd (never q e))))))))))
+    λ e. absurd (never q e)))))))))))
 
 -- the fields are those of the settings that are made
 record AreSet (o : Overrides) (fields : List (List ℕ)) (q : Overrides) : Type 0 where
@@ -312,6 +318,7 @@ value_word (MaxSize n) = decimal_over 32 n (omega arith)
 value_word (MinIdle (Some n)) = decimal_over 32 n (omega arith)
 value_word (Lifetime (Some n)) = decimal_over 32 n (omega arith)
 value_word (Idle (Some n)) = decimal_over 32 n (omega arith)
+value_word (TestAfter n) = decimal_over 32 n (omega arith)
 value_word (Timeout n) = decimal_over 32 n (omega arith)
 value_word (Reaper n) = decimal_over 32 n (omega arith)
 value_word (Check true) = are_over 32 (codes "on") refl

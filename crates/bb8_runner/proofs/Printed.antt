@@ -1,5 +1,5 @@
 -- What is printed of an answer and of a state has no byte below a space, so no line feed.
-use Rattle.bb8_runner.proofs.Speech.{◌≡◌, ◌≢◌, ℕ, Bool, true, false, cond, eqb, List, [], ◌++◌, Option, Some, None, refl, arith, codes, decimal, All, All-nil, All-weaker, Counts, Figures, figures_of, Grant, grant_text, notifies_text, sizes_text, gets_text, opened_text, closed_text, state_text, answer_text}
+use Rattle.bb8_runner.proofs.Speech.{◌≡◌, ◌≢◌, ℕ, Bool, true, false, cond, eqb, List, [], ◌++◌, Option, Some, None, refl, arith, codes, decimal, All, All-nil, All-weaker, Counts, Figures, figures_of, Grant, grant_text, notifies_text, sizes_text, gets_text, opened_text, closed_text, gone_text, state_text, answer_text}
 use Rattle.bb8_core.specs.declared.replay.events.Answer.{Answer}
 use Rattle.bb8_core.specs.declared.replay.events.Answer.TheVariants.{Begun, Served, Taken, Waiting, Kept, Closed, GaveUp, Granted, Claimed, Entered, Late, Added, Reaped, Shown, Left, Looked}
 use Rattle.bb8_runner.proofs.Bytes.{IsOver, AreOver, over, are_over, decimal_over, joined}
@@ -45,13 +45,19 @@ unfolding over
 closed_visible c = word (codes " broken ") _ refl (after c.broken _ (word (codes " invalid ") _ refl (after c.invalid _ (word (codes " lifetime ") _ refl (after c.max_lifetime _
     (word (codes " idle_timeout ") _ refl (number c.idle_timeout)))))))
 
+gone_visible : (c : Counts) → AreVisible (gone_text c)
+unfolding over
+gone_visible c = joined 31 _ _
+    (unless (eqb c.retired 0) _ (word (codes " retired ") _ refl (number c.retired)))
+    (unless (eqb c.detached 0) _ (word (codes " detached ") _ refl (number c.detached)))
+
 state_visible : (f : Figures) → AreVisible (state_text f)
 unfolding over
 state_visible f = joined 31 (sizes_text f) _
     (word (codes "state connections ") _ refl (after f.connections _ (word (codes " idle ") _ refl (number f.idle))))
-    (joined 31 (gets_text f.counts) _ (gets_visible f.counts) (joined 31 (opened_text f.counts) (closed_text f.counts)
+    (joined 31 (gets_text f.counts) _ (gets_visible f.counts) (joined 31 (opened_text f.counts) _
     (word (codes " wait_us ") _ refl (after _ _ (word (codes " created ") _ refl (number f.counts.created))))
-    (closed_visible f.counts)))
+    (joined 31 (closed_text f.counts) _ (closed_visible f.counts) (gone_visible f.counts))))
 
 answer_visible : (a : Answer) → AreVisible (answer_text a)
 unfolding over

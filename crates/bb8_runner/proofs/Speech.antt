@@ -14,12 +14,12 @@ pub use Rattle.std.specs.Str.{bytes_eq, IsUtf8, IsAscii}
 pub use Rattle.bb8_types.specs.Figures.{figures_of}
 pub use Rattle.bb8_types.specs.declared.reasons.Reason.TheVariants.{TimedOut, Cancelled}
 pub use Rattle.bb8_core.specs.declared.replay.events.Act.{Act}
-pub use Rattle.bb8_core.specs.declared.replay.events.Act.TheVariants.{Fill, Failed, Leave, Reap, Add, Opened, Look, Claim, State, CheckedOk, Join, Try, PutBack, GiveUp, Begin, CheckedErr}
+pub use Rattle.bb8_core.specs.declared.replay.events.Act.TheVariants.{Fill, Ask, Failed, Leave, Close, Reap, Retire, Add, Opened, Look, Claim, State, CheckedOk, Join, Try, PutBack, Detach, GiveUp, Begin, CheckedErr}
 pub use Rattle.bb8_core.specs.declared.replay.events.Event.{Event}
 pub use Rattle.bb8_runner.specs.Grammar.{◌>>=◌, fields_of, event_of, numbered_act, worded_act, broken_act, plain_act, number_of}
 pub use Rattle.bb8_runner.specs.Script.{IsFirstNoEvent, Spells}
-pub use Rattle.bb8_runner.specs.Spelling.{verb_of, args_of, strategy_text, made, all_made, setting_field, Check, AllFit, FitsLimit, name_of, AreDistinct, Strategy, value_of, Reaper, MinIdle, LacksName, Retry, MaxSize, Timeout, Idle, switch_text, Setting, Lifetime, limit_text, FitsSetting, SpellsSettings, FitsAct, SpellsEvent, flag, event_fields, FitsEvent, event_line}
-pub use Rattle.bb8_runner.specs.Text.{answer_text, notifies_text, opened_text, grant_text, state_text, sizes_text, closed_text, gets_text, output_of, line}
+pub use Rattle.bb8_runner.specs.Spelling.{verb_of, args_of, strategy_text, made, all_made, setting_field, Check, TestAfter, AllFit, FitsLimit, name_of, AreDistinct, Strategy, value_of, Reaper, MinIdle, LacksName, Retry, MaxSize, Timeout, Idle, switch_text, Setting, Lifetime, limit_text, FitsSetting, SpellsSettings, FitsAct, SpellsEvent, flag, event_fields, FitsEvent, event_line}
+pub use Rattle.bb8_runner.specs.Text.{answer_text, notifies_text, opened_text, grant_text, state_text, sizes_text, closed_text, gone_text, gets_text, output_of, line}
 pub use Rattle.bb8_runner.specs.declared.overrides.Overrides.{Overrides}
 pub use Rattle.bb8_runner.specs.Opening.{on_or_off, strategy_of, once, with_setting, nothing_set, settings_from, if_lawful, settings_of_fields, settings_of_line}
 pub use Rattle.bb8_types.specs.Settings.{settings_of}

@@ -1,6 +1,6 @@
 -- What the lines of a script are read as.
 use Rattle.std.specs.Prelude.{ℕ, ◌^◌, ◌==◌, nat_lt, List, [], ◌∷◌, true, false, ◌&&◌, if◌then◌else◌, Option, Some, None, codes, decimal, option_and_then, option_map, unwrap_or}
-use Rattle.bb8_runner.specs.Words.{slice_split, bytes_eq, Act, Begin, Try, CheckedOk, CheckedErr, GiveUp, PutBack, Fill, Claim, Opened, Failed, Add, Reap, State, Join, Leave, Look, TimedOut, Cancelled, Event}
+use Rattle.bb8_runner.specs.Words.{slice_split, bytes_eq, Act, Begin, Try, CheckedOk, CheckedErr, GiveUp, PutBack, Detach, Fill, Ask, Claim, Opened, Failed, Add, Reap, Retire, State, Join, Leave, Close, Look, TimedOut, Cancelled, Event}
 use Rattle.std.specs.Str.Parse.{digits_value}
 
 -- what the second gives for the value of the first, where there is one
@@ -9,8 +9,8 @@ infixl 10 ◌>>=◌
 abbrev pub ◌>>=◌ : {A B : Type 0} → Option A → (A → Option B) → Option B
 o >>= f = option_and_then f o
 
--- The number below 2 ^ k that the field is: the field is just what the number prints as, so it is digits with no sign and
--- no leading zero.
+-- The number below 2 ^ k that the field is: the field is just what the number prints as, so it is
+-- digits with no sign and no leading zero.
 unfoldable pub number_of : ℕ → List ℕ → Option ℕ
 number_of k field = if bytes_eq field (decimal (digits_value 10 field)) && nat_lt (digits_value 10 field) (2 ^ k) then Some (digits_value 10 field) else None
 
@@ -19,14 +19,17 @@ abbrev pub plain_act : List ℕ → Option Act
 plain_act verb =
     if bytes_eq verb (codes "begin") then Some Begin
     else (if bytes_eq verb (codes "fill") then Some (Fill false)
+    else (if bytes_eq verb (codes "ask") then Some Ask
     else (if bytes_eq verb (codes "claim") then Some Claim
     else (if bytes_eq verb (codes "add") then Some (Add false)
     else (if bytes_eq verb (codes "reap") then Some Reap
+    else (if bytes_eq verb (codes "retire") then Some Retire
     else (if bytes_eq verb (codes "state") then Some State
     else (if bytes_eq verb (codes "join") then Some Join
     else (if bytes_eq verb (codes "leave") then Some Leave
+    else (if bytes_eq verb (codes "close") then Some Close
     else (if bytes_eq verb (codes "look") then Some Look
-    else None))))))))
+    else None)))))))))))
 
 -- the verbs with a word after them
 abbrev pub worded_act : List ℕ → List ℕ → Option Act
@@ -44,9 +47,10 @@ numbered_act verb n =
     else (if bytes_eq verb (codes "timeout") then Some (GiveUp n TimedOut false)
     else (if bytes_eq verb (codes "cancel") then Some (GiveUp n Cancelled false)
     else (if bytes_eq verb (codes "return") then Some (PutBack n false)
+    else (if bytes_eq verb (codes "detach") then Some (Detach n)
     else (if bytes_eq verb (codes "open") then Some (Opened n)
     else (if bytes_eq verb (codes "fail") then Some (Failed n)
-    else None)))))))
+    else None))))))))
 
 -- the verbs with a number and the word `broken` after them
 abbrev pub broken_act : List ℕ → ℕ → Option Act

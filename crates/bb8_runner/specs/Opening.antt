@@ -31,13 +31,14 @@ with_setting o name value =
     if bytes_eq name (codes "max_size") then option_map (λ v. record o { max_size = v }) (once o.max_size (number_of 32 value))
     else (if bytes_eq name (codes "min_idle") then option_map (λ v. record o { min_idle = v }) (once o.min_idle (limit_of 32 value))
     else (if bytes_eq name (codes "check") then option_map (λ v. record o { check = v }) (once o.check (on_or_off value))
+    else (if bytes_eq name (codes "test_after") then option_map (λ v. record o { test_after = v }) (once o.test_after (number_of 64 value))
     else (if bytes_eq name (codes "lifetime") then option_map (λ v. record o { lifetime = v }) (once o.lifetime (limit_of 64 value))
     else (if bytes_eq name (codes "idle") then option_map (λ v. record o { idle = v }) (once o.idle (limit_of 64 value))
     else (if bytes_eq name (codes "timeout") then option_map (λ v. record o { timeout = v }) (once o.timeout (number_of 64 value))
     else (if bytes_eq name (codes "reaper") then option_map (λ v. record o { reaper = v }) (once o.reaper (number_of 64 value))
     else (if bytes_eq name (codes "retry") then option_map (λ v. record o { retry = v }) (once o.retry (on_or_off value))
     else (if bytes_eq name (codes "strategy") then option_map (λ v. record o { strategy = v }) (once o.strategy (strategy_of value))
-    else None))))))))
+    else None)))))))))
 
 -- what is set, with the settings that the fields are
 unfoldable pub overrides_from : Overrides → List (List ℕ) → Option Overrides
@@ -49,7 +50,7 @@ overrides_from o (field ∷ fields) = do
 
 -- nothing is set
 abbrev pub nothing_set : Overrides
-nothing_set = record { max_size = None; min_idle = None; check = None; lifetime = None; idle = None; timeout = None; reaper = None; retry = None; strategy = None }
+nothing_set = record { max_size = None; min_idle = None; check = None; test_after = None; lifetime = None; idle = None; timeout = None; reaper = None; retry = None; strategy = None }
 
 -- what is not set has its default
 abbrev pub settings_from : Overrides → Settings
@@ -57,6 +58,7 @@ settings_from o = record {
   max_size = unwrap_or o.max_size default_settings.max_size;
   min_idle = unwrap_or o.min_idle default_settings.min_idle;
   test_on_check_out = unwrap_or o.check default_settings.test_on_check_out;
+  test_after = unwrap_or o.test_after default_settings.test_after;
   max_lifetime = unwrap_or o.lifetime default_settings.max_lifetime;
   idle_timeout = unwrap_or o.idle default_settings.idle_timeout;
   connection_timeout = unwrap_or o.timeout default_settings.connection_timeout;

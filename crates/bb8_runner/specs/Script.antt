@@ -60,14 +60,16 @@ abbrev pub IsFault : List (List ℕ) → NoScript → Type 0
 IsFault lines Memory = ⊤
 IsFault lines (BadLine n) = IsFirstBad lines n
 
--- The text is that of an allowed run of the configuration and the events, from a pool to which nothing happened.
+-- The text is that of an allowed run of the configuration and the events, from a pool to which
+-- nothing happened.
 pub record IsRunText (settings : Settings) (events : List Event) (text : List ℕ) : Type 0 where
   pub answers : List Answer
   pub last : Ledger ℕ
   pub allowed : IsRun (opening_with settings 0 0) events answers last
   pub told : text ≡ output_of answers (figures last)
 
--- The text for the input: that of an allowed run of the script that it spells, or the one line on its first bad line.
+-- The text for the input: that of an allowed run of the script that it spells, or the one line on
+-- its first bad line.
 abbrev pub IsAnswer : List ℕ → Verdict → List ℕ → Type 0
 IsAnswer input Ran text = (settings : Settings) × (events : List Event) × Spells (lines_of input) settings events × IsRunText settings events text
 IsAnswer input Bad text = (n : ℕ) × IsFirstBad (lines_of input) n × (text ≡ bad_line_text n)

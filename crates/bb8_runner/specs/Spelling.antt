@@ -1,6 +1,6 @@
 -- How events and configurations are spelled: each line is one of these, and no other line is good.
 use Rattle.std.specs.Prelude.{◌≡◌, ◌≢◌, ℕ, ◌^◌, ◌<◌, List, [], ◌∷◌, ◌++◌, map, ⊤, Bool, true, false, Option, Some, None, codes, decimal}
-use Rattle.bb8_runner.specs.Words.{join_with_byte, Act, Begin, Try, CheckedOk, CheckedErr, GiveUp, PutBack, Fill, Claim, Opened, Failed, Add, Reap, State, Join, Leave, Look, TimedOut, Cancelled, Event, QueueStrategy, Fifo, Lifo, Settings, default_settings, is_lawful}
+use Rattle.bb8_runner.specs.Words.{join_with_byte, Act, Begin, Try, CheckedOk, CheckedErr, GiveUp, PutBack, Detach, Fill, Ask, Claim, Opened, Failed, Add, Reap, Retire, State, Join, Leave, Close, Look, TimedOut, Cancelled, Event, QueueStrategy, Fifo, Lifo, Settings, default_settings, is_lawful}
 
 -- the verb of an event
 abbrev pub verb_of : Act → List ℕ
@@ -11,15 +11,19 @@ verb_of (CheckedErr g b) = codes "err"
 verb_of (GiveUp g TimedOut b) = codes "timeout"
 verb_of (GiveUp g Cancelled b) = codes "cancel"
 verb_of (PutBack k b) = codes "return"
+verb_of (Detach k) = codes "detach"
 verb_of (Fill c) = codes "fill"
+verb_of Ask = codes "ask"
 verb_of Claim = codes "claim"
 verb_of (Opened a) = codes "open"
 verb_of (Failed a) = codes "fail"
 verb_of (Add b) = codes "add"
 verb_of Reap = codes "reap"
+verb_of Retire = codes "retire"
 verb_of State = codes "state"
 verb_of Join = codes "join"
 verb_of Leave = codes "leave"
+verb_of Close = codes "close"
 verb_of Look = codes "look"
 
 -- the word, where it is wanted
@@ -34,6 +38,7 @@ args_of (CheckedOk g) = decimal g ∷ []
 args_of (CheckedErr g b) = decimal g ∷ flag (codes "broken") b
 args_of (GiveUp g why b) = decimal g ∷ flag (codes "broken") b
 args_of (PutBack k b) = decimal k ∷ flag (codes "broken") b
+args_of (Detach k) = decimal k ∷ []
 args_of (Fill c) = flag (codes "claimed") c
 args_of (Opened a) = decimal a ∷ []
 args_of (Failed a) = decimal a ∷ []
@@ -47,6 +52,7 @@ FitsAct (CheckedOk g) = g < 2 ^ 64
 FitsAct (CheckedErr g b) = g < 2 ^ 64
 FitsAct (GiveUp g why b) = g < 2 ^ 64
 FitsAct (PutBack k b) = k < 2 ^ 64
+FitsAct (Detach k) = k < 2 ^ 64
 FitsAct (Opened a) = a < 2 ^ 64
 FitsAct (Failed a) = a < 2 ^ 64
 FitsAct _ = ⊤
@@ -74,6 +80,7 @@ pub data Setting : Type 0 where
   MaxSize : ℕ → Setting
   MinIdle : Option ℕ → Setting
   Check : Bool → Setting
+  TestAfter : ℕ → Setting
   Lifetime : Option ℕ → Setting
   Idle : Option ℕ → Setting
   Timeout : ℕ → Setting
@@ -86,6 +93,7 @@ abbrev pub name_of : Setting → List ℕ
 name_of (MaxSize n) = codes "max_size"
 name_of (MinIdle n) = codes "min_idle"
 name_of (Check b) = codes "check"
+name_of (TestAfter n) = codes "test_after"
 name_of (Lifetime n) = codes "lifetime"
 name_of (Idle n) = codes "idle"
 name_of (Timeout n) = codes "timeout"
@@ -113,6 +121,7 @@ abbrev pub value_of : Setting → List ℕ
 value_of (MaxSize n) = decimal n
 value_of (MinIdle n) = limit_text n
 value_of (Check b) = switch_text b
+value_of (TestAfter n) = decimal n
 value_of (Lifetime n) = limit_text n
 value_of (Idle n) = limit_text n
 value_of (Timeout n) = decimal n
@@ -133,6 +142,7 @@ FitsLimit k None = ⊤
 abbrev pub FitsSetting : Setting → Type 0
 FitsSetting (MaxSize n) = n < 2 ^ 32
 FitsSetting (MinIdle n) = FitsLimit 32 n
+FitsSetting (TestAfter n) = n < 2 ^ 64
 FitsSetting (Lifetime n) = FitsLimit 64 n
 FitsSetting (Idle n) = FitsLimit 64 n
 FitsSetting (Timeout n) = n < 2 ^ 64
@@ -159,6 +169,7 @@ abbrev pub made : Settings → Setting → Settings
 made s (MaxSize n) = record s { max_size = n }
 made s (MinIdle n) = record s { min_idle = n }
 made s (Check b) = record s { test_on_check_out = b }
+made s (TestAfter n) = record s { test_after = n }
 made s (Lifetime n) = record s { max_lifetime = n }
 made s (Idle n) = record s { idle_timeout = n }
 made s (Timeout n) = record s { connection_timeout = n }
@@ -171,8 +182,8 @@ abbrev pub all_made : Settings → List Setting → Settings
 all_made s [] = s
 all_made s (x ∷ xs) = all_made (made s x) xs
 
--- The fields spell the configuration: the word `config`, and settings of different names in any order. What is not set
--- has its default, and a pool can hold to the whole.
+-- The fields spell the configuration: the word `config`, and settings of different names in any
+-- order. What is not set has its default, and a pool can hold to the whole.
 pub record SpellsSettings (fields : List (List ℕ)) (s : Settings) : Type 0 where
   pub chosen : List Setting
   pub fit : AllFit chosen

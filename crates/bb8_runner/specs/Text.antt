@@ -32,9 +32,14 @@ abbrev pub closed_text : Counts → List ℕ
 closed_text c = codes " broken " ++ (decimal c.broken ++ (codes " invalid " ++ (decimal c.invalid ++ (codes " lifetime " ++ (decimal c.max_lifetime
     ++ (codes " idle_timeout " ++ decimal c.idle_timeout))))))
 
+-- ` retired N` where a retired one was closed, and ` detached N` where one left the pool
+abbrev pub gone_text : Counts → List ℕ
+gone_text c = (if c.retired == 0 then [] else codes " retired " ++ decimal c.retired)
+    ++ (if c.detached == 0 then [] else codes " detached " ++ decimal c.detached)
+
 -- the state line without its line feed
 abbrev pub state_text : Figures → List ℕ
-state_text f = sizes_text f ++ (gets_text f.counts ++ (opened_text f.counts ++ closed_text f.counts))
+state_text f = sizes_text f ++ (gets_text f.counts ++ (opened_text f.counts ++ (closed_text f.counts ++ gone_text f.counts)))
 
 -- an answer without its line feed
 abbrev pub answer_text : Answer → List ℕ

@@ -12,8 +12,9 @@ use Rattle.bb8_runner.specs.Text.{line, state_text, bad_line_text}
 abbrev pub dealt_text : ℕ → Bool → Figures → List ℕ
 dealt_text entries audited last = line (codes "entries " ++ decimal entries) ++ (line (if audited then codes "audit yes" else codes "audit no") ++ line (state_text last))
 
--- The text tells of a legal history of the settings, from a pool to which nothing happened, and of the state that it leads to. It has as
--- many entries as the seats made steps, and the audit says yes just where their notes account for it.
+-- The text tells of a legal history of the settings, from a pool to which nothing happened, and of
+-- the state that it leads to. It has as many entries as the seats made steps, and the audit says
+-- yes just where their notes account for it.
 pub record IsDealtText (settings : Settings) (text : List ℕ) : Type 0 where
   pub entries : List Entry
   pub notes : List Notes
@@ -24,7 +25,8 @@ pub record IsDealtText (settings : Settings) (text : List ℕ) : Type 0 where
   pub audits : Decides audited (IsAccount entries notes)
   pub told : text ≡ dealt_text (length entries) audited (figures last)
 
--- The text for the input: that of a history of the script's configuration, or the one line on its first bad line.
+-- The text for the input: that of a history of the script's configuration, or the one line on its
+-- first bad line.
 abbrev pub IsThreadsAnswer : List ℕ → Verdict → List ℕ → Type 0
 IsThreadsAnswer input Ran text = (settings : Settings) × (events : List Event) × Spells (lines_of input) settings events × IsDealtText settings text
 IsThreadsAnswer input Bad text = (n : ℕ) × IsFirstBad (lines_of input) n × (text ≡ bad_line_text n)

@@ -3,7 +3,7 @@ pub use Rattle.std.specs.Str.{bytes_eq}
 pub use Rattle.bb8_runner.specs.declared.threads.arguments.Mode.TheVariants.{Script, Threads}
 pub use Rattle.std.specs.List.{slice_split, before_first, after_first, position_or_len, join_with_byte, sum_by}
 pub use Rattle.bb8_core.specs.declared.replay.events.Act.{Act}
-pub use Rattle.bb8_core.specs.declared.replay.events.Act.TheVariants.{Begin, Try, CheckedOk, CheckedErr, GiveUp, PutBack, Fill, Claim, Opened, Failed, Add, Reap, State, Join, Leave, Look}
+pub use Rattle.bb8_core.specs.declared.replay.events.Act.TheVariants.{Begin, Try, CheckedOk, CheckedErr, GiveUp, PutBack, Detach, Fill, Ask, Claim, Opened, Failed, Add, Reap, Retire, State, Join, Leave, Close, Look}
 pub use Rattle.bb8_types.specs.declared.reasons.Reason.TheVariants.{TimedOut, Cancelled}
 pub use Rattle.bb8_core.specs.declared.replay.events.Event.{Event}
 pub use Rattle.bb8_types.specs.declared.api.configuration.QueueStrategy.{QueueStrategy}

@@ -7,8 +7,8 @@ use bb8_core::replay::{Act, Event, Reason};
 use std::alloc::{AllocError, Global};
 use std::str;
 
-/// The number that a field is: decimal digits with no sign and no leading zero, at most 18,446,744,073,709,551,615. None where it is no
-/// such number.
+/// The number that a field is: decimal digits with no sign and no leading zero, at most
+/// 18,446,744,073,709,551,615. None where it is no such number.
 pub fn number(field: &str) -> Option<u64>
     ensures { result ≡ number_of 64 field.now }
 {
@@ -38,12 +38,15 @@ fn plain_act(verb: &str) -> Option<Act>
     match verb {
         "begin" => Some(Act::Begin),
         "fill" => Some(Act::Fill(false)),
+        "ask" => Some(Act::Ask),
         "claim" => Some(Act::Claim),
         "add" => Some(Act::Add(false)),
         "reap" => Some(Act::Reap),
+        "retire" => Some(Act::Retire),
         "state" => Some(Act::State),
         "join" => Some(Act::Join),
         "leave" => Some(Act::Leave),
+        "close" => Some(Act::Close),
         "look" => Some(Act::Look),
         _ => None,
     }
@@ -71,6 +74,7 @@ fn numbered_act(verb: &str, n: u64) -> Option<Act>
         "timeout" => Some(Act::GiveUp(n, Reason::TimedOut, false)),
         "cancel" => Some(Act::GiveUp(n, Reason::Cancelled, false)),
         "return" => Some(Act::PutBack(n, false)),
+        "detach" => Some(Act::Detach(n)),
         "open" => Some(Act::Opened(n)),
         "fail" => Some(Act::Failed(n)),
         _ => None,
@@ -134,7 +138,8 @@ pub fn fields_of(alloc: Global, line: &str) -> Result<Vec<&str>, AllocError>
     line.split(' ').collect(alloc)
 }
 
-/// The event that a line is: a moment, a verb and its arguments. None where it is no event, Err where memory was refused.
+/// The event that a line is: a moment, a verb and its arguments. None where it is no event, Err
+/// where memory was refused.
 pub fn event_of(alloc: Global, line: &[u8]) -> Result<Option<Event>, AllocError>
     ensures { IfOk result (λ event. event ≡ event_of line.now) }
 {

@@ -65,8 +65,9 @@ fn pieces_of(alloc: Global, input: &[u8]) -> Result<Vec<&[u8]>, AllocError>
     input.split(|b| *b == b'\n').collect(alloc)
 }
 
-/// The lines of an input. A line feed ends a line, and the last line may lack it. No input is one empty line. The cut is made on bytes, so
-/// that bytes that are no text make only their own line bad. Err where memory was refused.
+/// The lines of an input. A line feed ends a line, and the last line may lack it. No input is one
+/// empty line. The cut is made on bytes, so that bytes that are no text make only their own line
+/// bad. Err where memory was refused.
 pub fn lines_of(alloc: Global, input: &[u8]) -> Result<Vec<&[u8]>, AllocError>
     ensures { IfOk result (λ lines. map (λ x. x.now) lines.items ≡ lines_of input.now) }
 {
@@ -90,8 +91,8 @@ fn events_of(alloc: Global, lines: &[&[u8]]) -> Result<Vec<Event>, NoScript>
     Ok(events)
 }
 
-/// The script that the lines are: a configuration, which a pool can hold to, and an event a line. Err where memory was refused, or with the
-/// first bad line.
+/// The script that the lines are: a configuration, which a pool can hold to, and an event a line.
+/// Err where memory was refused, or with the first bad line.
 pub fn script_of(alloc: Global, lines: &[&[u8]]) -> Result<Script, NoScript>
     ensures lawful { IfOk result (λ s. is_lawful (settings_of s.config) ≡ true) }
     ensures read { IfOk result (λ s. Spells (map (λ x. x.now) lines.now)

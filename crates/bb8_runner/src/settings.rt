@@ -61,8 +61,8 @@ fn once<T: Copy>(old: Option<T>, new: Option<T>) -> Option<Option<T>>
     }
 }
 
-/// What is set, with one setting more. None where there is no such setting, where it is set already, or where its value is none of its
-/// values.
+/// What is set, with one setting more. None where there is no such setting, where it is set
+/// already, or where its value is none of its values.
 #[tactic(auto, unfolding(crate::specs::Opening::with_setting))]
 fn with_setting(overrides: Overrides, name: &str, value: &str) -> Option<Overrides>
     ensures { result ≡ with_setting overrides name.now value.now }
@@ -72,6 +72,7 @@ fn with_setting(overrides: Overrides, name: &str, value: &str) -> Option<Overrid
         "max_size" => o.max_size = once(o.max_size, small_number(value))?,
         "min_idle" => o.min_idle = once(o.min_idle, small_limit_of(value))?,
         "check" => o.check = once(o.check, on_or_off(value))?,
+        "test_after" => o.test_after = once(o.test_after, number(value))?,
         "lifetime" => o.lifetime = once(o.lifetime, limit_of(value))?,
         "idle" => o.idle = once(o.idle, limit_of(value))?,
         "timeout" => o.timeout = once(o.timeout, number(value))?,
@@ -97,6 +98,7 @@ fn overrides_of(fields: &[&str]) -> Option<Overrides>
         max_size: None,
         min_idle: None,
         check: None,
+        test_after: None,
         lifetime: None,
         idle: None,
         timeout: None,
@@ -150,6 +152,7 @@ fn config_from(overrides: Overrides) -> Config
         max_size: overrides.max_size.unwrap_or(config.max_size),
         min_idle: overrides.min_idle.unwrap_or(config.min_idle),
         test_on_check_out: overrides.check.unwrap_or(config.test_on_check_out),
+        test_after: span_or(overrides.test_after, config.test_after),
         max_lifetime: limit_or(overrides.lifetime, config.max_lifetime),
         idle_timeout: limit_or(overrides.idle, config.idle_timeout),
         connection_timeout: span_or(overrides.timeout, config.connection_timeout),
@@ -175,8 +178,8 @@ fn config_of_fields(fields: &[&str]) -> Option<Config>
     config.is_lawful().then_some(config)
 }
 
-/// The configuration that a line is: the word `config` and settings, each at most once. None where it is none that a pool can hold to,
-/// Err where memory was refused.
+/// The configuration that a line is: the word `config` and settings, each at most once. None where
+/// it is none that a pool can hold to, Err where memory was refused.
 pub fn config_of(alloc: Global, line: &[u8]) -> Result<Option<Config>, AllocError>
     ensures lawful { IfOk result (λ config. IfSome config
         (λ config. is_lawful (settings_of config) ≡ true)) }

@@ -1,7 +1,8 @@
 //! What a script is read from, and what its answers are written to.
 //!
-//! The kit's `Read` and `Write` do not tell of a call that it failed. These two do, by a relation that each implementer chooses: code that
-//! is generic over them can state of an error that it comes from a call that failed, and a body that makes no call cannot prove that.
+//! The kit's `Read` and `Write` do not tell of a call that it failed. These two do, by a relation
+//! that each implementer chooses: code that is generic over them can state of an error that it
+//! comes from a call that failed, and a body that makes no call cannot prove that.
 ghost use Rattle.std.specs.Prelude.{◌≡◌, ◌≢◌, ℕ, List, Option, ⊤, OnOk, IfOk, IfSome, IfErr, IsErr, IsErrOf};
 ghost use Rattle.std.specs.Io.KnownBytes.{Appends, IsAtEnd};
 

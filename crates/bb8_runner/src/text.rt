@@ -1,7 +1,7 @@
 //! The lines that a script's answers print as.
 ghost use Rattle.std.specs.Prelude.{◌≡◌, ◌++◌, Some, IfOk, string_bytes};
 ghost use Rattle.bb8_types.specs.Figures.{counts_of, figures_of};
-ghost use Rattle.bb8_runner.specs.Text.{grant_text, notifies_text, sizes_text, gets_text, opened_text, closed_text, state_text, answer_text, output_of, bad_line_text};
+ghost use Rattle.bb8_runner.specs.Text.{grant_text, notifies_text, sizes_text, gets_text, opened_text, closed_text, gone_text, state_text, answer_text, output_of, bad_line_text};
 
 use bb8_core::api::{Moment, State, Statistics};
 use bb8_core::internals::Grant;
@@ -118,6 +118,26 @@ impl fmt::Display for ClosedPart {
     }
 }
 
+/// How many connections were retired, and how many left the pool.
+#[derive(Clone, Copy)]
+struct GonePart(Statistics);
+
+impl fmt::Display for GonePart {
+    ghost output = { λ p. Some (gone_text (counts_of p.0)) };
+
+    fn fmt<W: fmt::Write>(&self, f: &mut fmt::Formatter<W>) -> fmt::Result {
+        let retired = self.0.connections_closed_retired;
+        if retired != 0 {
+            write!(f, " retired {retired}")?;
+        }
+        let detached = self.0.connections_detached;
+        if detached != 0 {
+            write!(f, " detached {detached}")?;
+        }
+        Ok(())
+    }
+}
+
 /// The state line.
 #[derive(Clone, Copy)]
 struct StateText(State);
@@ -129,11 +149,12 @@ impl fmt::Display for StateText {
         let statistics = self.0.statistics;
         write!(
             f,
-            "{}{}{}{}",
+            "{}{}{}{}{}",
             SizesPart(self.0),
             GetsPart(statistics),
             OpenedPart(statistics),
-            ClosedPart(statistics)
+            ClosedPart(statistics),
+            GonePart(statistics)
         )
     }
 }
@@ -196,7 +217,8 @@ impl fmt::Display for AnswerText {
     }
 }
 
-/// What a script that ran prints: a line for each answer, and the state line. Err where memory was refused.
+/// What a script that ran prints: a line for each answer, and the state line. Err where memory was
+/// refused.
 pub fn output(alloc: Global, answers: &[Answer], last: State) -> Result<String, AllocError>
     ensures { IfOk result (λ text. string_bytes text ≡ output_of answers.now (figures_of last)) }
 {

@@ -1,4 +1,5 @@
-//! Scripts from bytes to bytes, and journals of what threads made: rows that were worked out by hand, audits that must say no, refused memory.
+//! Scripts from bytes to bytes, and journals of what threads made: rows that were worked out by
+//! hand, audits that must say no, refused memory.
 #![tactic(auto)]
 
 #[cfg(test)]

@@ -1,5 +1,5 @@
-//! Runs a script of events over a pool: reads it from standard input, and writes the answers to standard output; or runs it in threads, and
-//! writes what their journal says.
+//! Runs a script of events over a pool: reads it from standard input, and writes the answers to
+//! standard output; or runs it in threads, and writes what their journal says.
 #![tactic(auto)]
 
 ghost use Rattle.std.specs.Prelude.{◌≡◌, ◌≤◌, ℕ, IsErr, Ok, Some};
@@ -19,7 +19,8 @@ use std::{env, io};
 /// The exit status where the arguments are none that the program takes.
 const BAD_ARGUMENTS: u8 = 2;
 
-/// The exit status: 0 where the script ran, 2 after a bad line, and 3 where reading, writing or memory failed.
+/// The exit status: 0 where the script ran, 2 after a bad line, and 3 where reading, writing or
+/// memory failed.
 fn status_of(outcome: &Result<Verdict, Fault>) -> u8
     ensures ran { outcome.now ≡ Ok Ran → result ≡ 0 }
     ensures bad { outcome.now ≡ Ok Bad → result ≡ 2 }
@@ -32,8 +33,8 @@ fn status_of(outcome: &Result<Verdict, Fault>) -> u8
     }
 }
 
-/// What the arguments ask for; None where they are none that the program takes, also where one is no text. `Memory` where memory for them
-/// was refused.
+/// What the arguments ask for; None where they are none that the program takes, also where one is
+/// no text. `Memory` where memory for them was refused.
 fn mode_of<R: Env + AllocGlobal>(rt: &R) -> Result<Option<Mode>, Fault>
     ensures threads { (n : ℕ) → result ≡ Ok (Some (Threads n)) → 1 ≤ n }
 {
@@ -49,8 +50,8 @@ fn mode_of<R: Env + AllocGlobal>(rt: &R) -> Result<Option<Mode>, Fault>
     }
 }
 
-/// Ends with the status of the script's outcome, and with a word on standard error where that is a fault. The arguments are judged before
-/// anything is read.
+/// Ends with the status of the script's outcome, and with a word on standard error where that is a
+/// fault. The arguments are judged before anything is read.
 fn main(rt: HostRuntime) -> io::Result<ExitCode> {
     let alloc = rt.alloc();
     let outcome = match mode_of(&rt) {

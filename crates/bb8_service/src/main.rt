@@ -1,5 +1,6 @@
-//! A service: threads that write to SQLite databases through one pool. A connection that comes back with its transaction open is closed,
-//! and the pool opens another. Each connection has a database of its own, in memory: the kit's `sqlite` lets one handle open a file.
+//! A service: threads that write to SQLite databases through one pool. A connection that comes back
+//! with its transaction open is closed, and the pool opens another. Each connection has a database
+//! of its own, in memory: the kit's `sqlite` lets one handle open a file.
 #![tactic(auto)]
 
 mod databases;
@@ -12,7 +13,8 @@ use bb8_blocking::Blocking;
 use std::io;
 use std::process::ExitCode;
 
-/// Runs the service over its pool, and prints what came of it, which is the same whatever the schedule.
+/// Runs the service over its pool, and prints what came of it, which is the same whatever the
+/// schedule.
 fn main(rt: HostRuntime) -> io::Result<ExitCode> {
     let service = SharedDatabases { rt };
     let manager = Blocking(Databases { alloc: rt.alloc() });

@@ -41,8 +41,8 @@ impl<R: Runtime> Service<Blocking<Databases>, NopErrorSink, NopCustomizer, Machi
         Ok(())
     }
 
-    /// Writes to some database a number of times, and gives it back before the next. One whose transaction is left open is closed then,
-    /// so what it held is counted before.
+    /// Writes to some database a number of times, and gives it back before the next. One whose
+    /// transaction is left open is closed then, so what it held is counted before.
     fn run<L: PoolParts>(&self, pool: &DatabasePool<R, L>, _thread: usize) -> Option<Sums> {
         let mut sums = Sums::default();
         for round in 0..ROUNDS {
@@ -57,7 +57,8 @@ impl<R: Runtime> Service<Blocking<Databases>, NopErrorSink, NopCustomizer, Machi
         Some(sums)
     }
 
-    /// Takes as many connections as there may be, all at once, and adds what their databases hold to what the threads told.
+    /// Takes as many connections as there may be, all at once, and adds what their databases hold
+    /// to what the threads told.
     fn end<L: PoolParts>(
         &self,
         pool: &DatabasePool<R, L>,

@@ -1,9 +1,11 @@
-//! A storm over one pool: threads that get, check, break, cancel, add, clone and drop at random, with parts that change their answers at
-//! every call, while a driver in a thread of its own opens, fails and reaps.
+//! A storm over one pool: threads that get, check, break, cancel, add, clone and drop at random,
+//! with parts that change their answers at every call, while a driver in a thread of its own opens,
+//! fails and reaps.
 //!
-//! `bb8_storm ROUNDS`: three phases, in each of which four threads make so many rounds each. After a phase, when the threads and the driver
-//! have ended, it compares the pool's figures with what the threads were told and with what the connections themselves counted, and prints
-//! a line, which is the same whatever the schedule. It ends with status 1 where they differ.
+//! `bb8_storm ROUNDS`: three phases, in each of which four threads make so many rounds each. After
+//! a phase, when the threads and the driver have ended, it compares the pool's figures with what
+//! the threads were told and with what the connections themselves counted, and prints a line, which
+//! is the same whatever the schedule. It ends with status 1 where they differ.
 #![tactic(auto)]
 
 ghost use Rattle.std.specs.Prelude.{Some};
@@ -52,7 +54,8 @@ impl Gate for Stop {
     }
 }
 
-/// A phase beside a driver: what the threads were told. The driver has ended then, and has not found the pool without a handle.
+/// A phase beside a driver: what the threads were told. The driver has ended then, and has not
+/// found the pool without a handle.
 fn in_phase<R: Runtime + Threads, L: PoolParts + 'static>(
     rt: R,
     storm: &Storm<'_, R, L>,

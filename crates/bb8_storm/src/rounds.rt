@@ -36,7 +36,8 @@ trait MakesRounds {
     /// A get, which is polled a few times, and dropped or cancelled where it was not answered.
     fn get(&self, task: &MockTask, source: &RandomSource, told: &mut GetCounts);
 
-    /// A get with a handle of its own, of a handle that is dropped meanwhile, polled and let go in the same way.
+    /// A get with a handle of its own, of a handle that is dropped meanwhile, polled and let go in
+    /// the same way.
     fn get_owned(&self, task: &MockTask, source: &RandomSource, told: &mut GetCounts);
 
     /// A get that the thread waits for, with a handle of its own or without.
@@ -49,7 +50,8 @@ trait MakesRounds {
     fn ask(&self, told: &mut GetCounts);
 }
 
-/// Counts a get that was polled so often and then let go: it began with its first poll, and was cancelled where it was not answered.
+/// Counts a get that was polled so often and then let go: it began with its first poll, and was
+/// cancelled where it was not answered.
 fn note(told: &mut GetCounts, polls: u64, answered: bool) {
     if polls > 0 {
         told.begun = told.begun.saturating_add(1);

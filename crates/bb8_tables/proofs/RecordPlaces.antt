@@ -1,5 +1,5 @@
 -- The code's side of each change: what it does to the fields, seen in what they mean.
-use Rattle.bb8_tables.proofs.Words.{subst, ◌≡◌, ◌≢◌, ℕ, ◌+◌, ◌-◌, ◌<◌, ◌≤◌, Bool, true, false, cond, not, [], ◌∷◌, ◌++◌, map, length, Option, Some, None, IsSome, set, slice_get, drop, refl, sym, ap, ◌∙◌, arith, append-nil, map_push, drop-map, length-map, get, TableView, slot_at, Absent, Buffer, buffer, Place, Unclaimed, Claimed, Idle, Guarded, Standing, Holder, Guard, Get, Key, Slot, QueueStrategy, is_idle, is_unclaimed, is_conn, is_approval, is_out, place_with, with_place, first_place, first_of, comes_from, birth_in, IsTable, number_in, numbers_at, view_of_records, AreGoodRecords, passes, IsLineOf, IsOrderOf, tally, one, RecordsView, NoneAfter, most_records, Inside, unclaimed_is, idle_is, held_conn, idle_from, unclaimed_from, conn_from, approval_from}
+use Rattle.bb8_tables.proofs.Words.{subst, ◌≡◌, ◌≢◌, ℕ, ◌+◌, ◌-◌, ◌<◌, ◌≤◌, Bool, true, false, cond, not, [], ◌∷◌, ◌++◌, map, length, Option, Some, None, IsSome, set, slice_get, drop, refl, sym, ap, ◌∙◌, arith, append-nil, map_push, drop-map, length-map, get, TableView, slot_at, Absent, Buffer, buffer, Place, Unclaimed, Claimed, Idle, Guarded, Standing, Holder, Guard, Get, Key, Slot, QueueStrategy, is_idle, is_unclaimed, is_conn, is_approval, is_out, place_with, with_place, first_place, first_of, comes_from, birth_in, entered_in, IsTable, number_in, numbers_at, view_of_records, AreGoodRecords, passes, IsLineOf, IsOrderOf, tally, one, RecordsView, NoneAfter, most_records, Inside, unclaimed_is, idle_is, held_conn, idle_from, unclaimed_from, conn_from, approval_from}
 use Rattle.std.proofs.Common.{IfSome}
 use Rattle.bb8_tables.specs.Machine as machine
 use Rattle.bb8_tables.proofs.Views.{same_records}
@@ -39,7 +39,8 @@ module _ {C : Type 0} where
   pub approval_counted : (a : Inside C) (i : ℕ) (x : Slot (Standing C)) (b : Bool) → AreGoodRecords a → slot_at a.slots i ≡ Some x → is_approval x.standing.place ≡ b → one b ≤ a.approved
   approval_counted a i x b good e is = omega (arith, tally_at (passes is_approval) refl a.slots.slots i, ap one (ap (passes is_approval) e ∙ is), good.approved_are)
 
-  -- a record that enters or ends is counted, and in neither order but that of births where it is a connection
+  -- a record that enters or ends is counted, and in neither order but that of births where it is a
+  -- connection
   module _ (a : Inside C) (opening : Bool) (place : ℕ) (x : Slot (Standing C)) (good : AreGoodRecords a) (at_place : slot_at a.slots place ≡ Some x)
       (was : comes_from opening x.standing.place ≡ true) where
     pub opened_counted : one opening ≤ a.approved
@@ -91,7 +92,8 @@ module _ {C : Type 0} where
 
   -- ---- one place changes
 
-  -- Good records are good after one place has changed, where the line, the orders and the counts are right again: what passed a test there counted, and what passes it counts.
+  -- Good records are good after one place has changed, where the line, the orders and the counts
+  -- are right again: what passed a test there counted, and what passes it counts.
   pub changed_good : {a : Inside C} {next conns approved place : ℕ} {slots : TableView (Slot (Standing C))} {unclaimed : Buffer Key} {was is : Option (Slot (Standing C))} (m n k l : Bool)
       → AreGoodRecords a → slot_at a.slots place ≡ was → Updates a.slots.slots slots.slots place is
       → passes is_conn was ≡ m → passes is_conn is ≡ n → conns + one m ≡ a.conns + one n
@@ -234,6 +236,18 @@ module _ {C : Type 0} where
   idle_none a strategy empty = rw (length-map a.slots.line (λ (i : ℕ). number_in numbered (slot_at a.slots i)))
       (no_number_at a.slots.slots a.slots.line (first_place strategy (length a.slots.line)) empty)
 
+  -- the connection that is first became idle when its place says so
+  pub entered_first : (a : Inside C) (strategy : QueueStrategy) (place : ℕ) (x : Slot (Standing C)) → AreGoodRecords a
+      → Some place ≡ slice_get a.slots.line (first_place strategy (length a.slots.line)) → slot_at a.slots place ≡ Some x
+      → (k : ℕ) → first_of strategy (view_of_records a).idle ≡ Some k → x.standing.entered ≡ entered_in (get (view_of_records a).places k)
+  entered_first a strategy place x good first at_place k is =
+      let first_is : first_of strategy (view_of_records a).idle ≡ Some x.number =
+      rw (length-map a.slots.line (λ (i : ℕ). number_in numbered (slot_at a.slots i)))
+      (number_at a.slots.slots a.slots.line (first_place strategy (length a.slots.line)) (sym first) at_place) in
+      let both : Some x.number ≡ Some k = sym first_is ∙ is in
+      let same : x.number ≡ k = cc in
+      sym (ap entered_in (shown_at a place k x good at_place same))
+
   -- ---- hand over
 
   -- a guard takes over a connection that is out
@@ -296,7 +310,8 @@ module _ {C : Type 0} where
 
   -- ---- records end
 
-  -- Good records are good after one has ended, where the line of the unclaimed and the counts are right again.
+  -- Good records are good after one has ended, where the line of the unclaimed and the counts are
+  -- right again.
   pub ended_good : {a : Inside C} {conns approved place : ℕ} {slots : TableView (Slot (Standing C))} {unclaimed : Buffer Key} (x : Slot (Standing C)) (m k : Bool) → AreGoodRecords a
       → slot_at a.slots place ≡ Some x → Frees a.slots slots place → is_conn x.standing.place ≡ m → conns + one m ≡ a.conns → is_approval x.standing.place ≡ k → approved + one k ≡ a.approved
       → one m + one k ≡ 1

@@ -76,7 +76,8 @@ module _ {X S : Type 0} (number : X → ℕ) (value : X → S) where
   pub held_same : (old new : List (Option X)) → IsDistinct number old → ((i : ℕ) → get_or new i None ≡ get_or old i None) → values_at number value new ≡ values_at number value old
   held_same old new d same = held_is new _ (λ i x e. held_at old i x d (sym (same i) ∙ e)) (λ q absent. held_absent old q (λ i x e. absent i x (same i ∙ e)))
 
-  -- what places hold of which one has changed: it has one number, before and after, and no other place has that
+  -- what places hold of which one has changed: it has one number, before and after, and no other
+  -- place has that
   pub held_changed : {old new : List (Option X)} {place q : ℕ} {slot : Option X} (m : FinMap nat_cmp S) → IsDistinct number old → Updates old new place slot
       → ((k : ℕ) → get m k ≡ cond (eqb k q) (option_map value slot) (get (values_at number value old) k)) → ((x : X) → slot ≡ Some x → number x ≡ q)
       → ((i : ℕ) (y : X) → get_or old i None ≡ Some y → (i ≡ place → number y ≡ q) × (number y ≡ q → i ≡ place)) → values_at number value new ≡ m

@@ -15,7 +15,7 @@ pub use Rattle.bb8_types.specs.declared.standing.Holder.TheVariants.{Guard, Get}
 pub use Rattle.bb8_tables.specs.declared.keys.Key.{Key}
 pub use Rattle.bb8_tables.specs.declared.table.Slot.{Slot}
 pub use Rattle.bb8_types.specs.declared.api.configuration.QueueStrategy.{QueueStrategy}
-pub use Rattle.bb8_types.specs.Places.{is_idle, is_unclaimed, is_conn, is_approval, is_out, place_with, with_place, first_place, first_of, comes_from, birth_in, is_unnotified, get_in_wait, get_with_place, lives_out, is_past, is_expired, idles_out, first_or, is_claimed, is_guarded, stands}
+pub use Rattle.bb8_types.specs.Places.{is_idle, is_unclaimed, is_conn, is_approval, is_out, place_with, with_place, first_place, first_of, comes_from, birth_in, entered_in, is_unnotified, get_in_wait, get_with_place, lives_out, is_past, is_expired, idles_out, first_or, is_claimed, is_guarded, stands}
 pub use Rattle.bb8_tables.specs.Slots.{IsTable, number_in, numbers_at, ArePlaces, IsRising, values_at, IsOrder, AllFrom, IsDistinct, IsLine}
 pub use Rattle.bb8_tables.specs.State.{view_of_records, AreGoodRecords, passes, IsLineOf, IsOrderOf, view_of_gets, AreGoodGets, AreWaitingPlaces}
 pub use Rattle.bb8_types.specs.Numbered.{tally, one}

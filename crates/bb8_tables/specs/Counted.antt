@@ -17,4 +17,6 @@ counts_held c = record {
   invalid = c.invalid;
   max_lifetime = c.max_lifetime;
   idle_timeout = c.idle_timeout;
+  retired = c.retired;
+  detached = c.detached;
 }

@@ -23,7 +23,8 @@ module _ {C : Type 0} where
     pub idle : length new.idle + 1 ≡ length old.idle
     pub listed : offered ≡ offered_all (closed_of (k ∷ []) old.places) list
 
-  -- These idle connections have ended, one after another, each because it passed a test; they were offered to a list, and so many are told.
+  -- These idle connections have ended, one after another, each because it passed a test; they were
+  -- offered to a list, and so many are told.
   pub record Ends (test : Option (Standing C) → Bool) (old : RecordsView C) (ks : List ℕ) (new : RecordsView C) (told : ℕ) (list offered : Buffer (Closed C)) : Type 0 where
     pub each : AreReaped test ks old
     pub state : new ≡ after_reap ks old
@@ -32,7 +33,8 @@ module _ {C : Type 0} where
     pub idle : length new.idle + told ≡ length old.idle
     pub listed : offered ≡ offered_all (closed_of ks old.places) list
 
-  -- Those that are idle too long have ended, from the first in line on, until none was left or as many had ended as may.
+  -- Those that are idle too long have ended, from the first in line on, until none was left or as
+  -- many had ended as may.
   pub record EndsIdle (config : Settings) (now : ℕ) (old : RecordsView C) (ks : List ℕ) (new : RecordsView C) (told : ℕ) (list offered : Buffer (Closed C)) : Type 0 where
     pub first : AreFirst (idles_out config now) ks old
     pub ends : Ends (idles_out config now) old ks new told list offered

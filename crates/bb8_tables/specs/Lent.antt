@@ -1,9 +1,11 @@
--- How many entries of the tables were lent, and how often a table was searched, since the latest step began.
+-- How many entries of the tables were lent, and how often a table was searched, since the latest
+-- step began.
 use Rattle.std.specs.Prelude.{◌≡◌, ◌≤◌, ℕ, ◌+◌, ◌-◌, ◌%◌, ◌^◌, min, refl}
 use Rattle.std.specs.Coded.{Coded, code_by, coded×, coded_ℕ}
 use Rattle.bb8_types.specs.Bounds.{end_of_numbers}
 
--- The sum of all that was counted before the latest step, the entries that it was lent, and its searches.
+-- The sum of all that was counted before the latest step, the entries that it was lent, and its
+-- searches.
 pub record Lent : Type 0 where
   pub past : ℕ
   pub lent : ℕ

@@ -33,8 +33,9 @@ module _ {C : Type 0} where
   abbrev pub beyond : Settings → RecordsView C → ℕ
   beyond config s = length s.idle - unwrap_or config.min_idle 0
 
-  -- A reap: first those end that live too long, and none of them is left. Then those end that are idle too long, from the first in line on,
-  -- until none of them is left or as many have ended as there were beyond min_idle. It tells how many ended for either reason.
+  -- A reap: first those end that live too long, and none of them is left. Then those end that are
+  -- idle too long, from the first in line on, until none of them is left or as many have ended as
+  -- there were beyond min_idle. It tells how many ended for either reason.
   pub record Reaps (config : Settings) (now : ℕ) (old : RecordsView C) (js ks : List ℕ) (new : RecordsView C) (told : Reaped) : Type 0 where
     pub aged : AreReaped (lives_out config now) js old
     pub none_aged : (k : ℕ) → lives_out config now (get (after_reap js old).places k) ≡ false

@@ -52,7 +52,8 @@ abbrev pub IsRising : List ℕ → Type 0
 IsRising [] = Unit {0}
 IsRising (n ∷ ns) = AllFrom n ns × IsRising ns
 
--- These are all the places at which stands what passes the test; no place comes twice, and a later one has no earlier moment.
+-- These are all the places at which stands what passes the test; no place comes twice, and a later
+-- one has no earlier moment.
 pub record IsOrder {X : Type 0} (test : X → Bool) (moment : X → ℕ) (slots : List (Option X)) (places : List ℕ) : Type 0 where
   pub are : ArePlaces test slots places
   pub all : (i : ℕ) (x : X) → get_or slots i None ≡ Some x → Absent i places → test x ≡ false

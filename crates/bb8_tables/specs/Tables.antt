@@ -24,7 +24,8 @@ module _ {S : Type 0} where
   abbrev pub view_of_table : Inside S → TableView (Slot S)
   view_of_table a = record { slots = slots_of a.slots.items; line = a.line.places; births = a.births.places; free = a.free.len }
 
-  -- each order has all places, nothing stands at the first one, and there is room for each place among the free ones
+  -- each order has all places, nothing stands at the first one, and there is room for each place
+  -- among the free ones
   pub record IsGoodTable (a : Inside S) : Type 0 where
     pub line : a.slots.len ≤ a.line.size
     pub births : a.slots.len ≤ a.births.size

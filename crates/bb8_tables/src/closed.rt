@@ -10,5 +10,6 @@ pub struct Closed<C> {
     pub conn: C,
 }
 
-/// Closed connections, in the order in which they were closed. A step asks for no memory for it: what it has no room for is dropped.
+/// Closed connections, in the order in which they were closed. A step asks for no memory for it:
+/// what it has no room for is dropped.
 pub type ClosedList<C> = Ring<Closed<C>>;

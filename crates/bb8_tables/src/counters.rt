@@ -36,6 +36,10 @@ pub struct Counters {
     pub max_lifetime: u64,
     /// Connections that were closed as they had been idle too long.
     pub idle_timeout: u64,
+    /// Connections that were closed as they had been retired.
+    pub retired: u64,
+    /// Connections that left the pool for good.
+    pub detached: u64,
 }
 
 /// The whole microseconds since a get first waited, if it waited.
@@ -62,6 +66,8 @@ impl Counters {
         invalid: 0,
         max_lifetime: 0,
         idle_timeout: 0,
+        retired: 0,
+        detached: 0,
     };
 
     /// A get was served that first waited then, if it waited.
@@ -88,7 +94,8 @@ impl Counters {
         }
     }
 
-    /// A get was given up that first waited then, if it waited. How long it waited counts only where it timed out.
+    /// A get was given up that first waited then, if it waited. How long it waited counts only
+    /// where it timed out.
     pub fn give_up(&mut self, reason: Reason, first_wait: Option<u64>, now: u64)
         requires timed_out { self.old.timed_out < end_of_numbers }
         requires cancelled { self.old.cancelled < end_of_numbers }
@@ -112,24 +119,46 @@ impl Counters {
         }
     }
 
-    /// A connection was closed as it came back: it was broken, or else it had lived too long, or neither.
-    pub fn close(&mut self, broken: bool, expired: bool)
-        requires { self.old.broken + self.old.max_lifetime < end_of_numbers }
+    /// A connection was closed as it came back: it was broken, or else retired, or else it had
+    /// lived too long, or none of these.
+    pub fn close(&mut self, broken: bool, retired: bool, expired: bool)
+        requires { self.old.broken + self.old.retired + self.old.max_lifetime < end_of_numbers }
         ensures { self.new ≡ record self.old {
           broken =
               self.old.broken + one broken;
+          retired =
+              self.old.retired + one (not broken && retired);
           max_lifetime =
-              self.old.max_lifetime + one (not broken && expired);
+              self.old.max_lifetime + one (not broken && (not retired && expired));
         } }
     {
         if broken {
             self.broken += 1;
+        } else if retired {
+            self.retired += 1;
         } else if expired {
             self.max_lifetime += 1;
         }
     }
 
-    /// Connections were closed, so many as they had been idle too long, and so many others as they had lived too long.
+    /// Connections were closed that were idle as all were retired.
+    pub fn retire(&mut self, closed: u32)
+        requires { self.old.retired + closed ≤ end_of_numbers }
+        ensures { self.new ≡ record self.old { retired = self.old.retired + closed } }
+    {
+        self.retired += closed as u64;
+    }
+
+    /// A connection left for good.
+    pub fn detach(&mut self)
+        requires { self.old.detached < end_of_numbers }
+        ensures { self.new ≡ record self.old { detached = self.old.detached + 1 } }
+    {
+        self.detached += 1;
+    }
+
+    /// Connections were closed, so many as they had been idle too long, and so many others as they
+    /// had lived too long.
     pub fn reap(&mut self, by_idle: u32, by_life: u32)
         requires by_idle { self.old.idle_timeout + by_idle ≤ end_of_numbers }
         requires by_life { self.old.max_lifetime + by_life ≤ end_of_numbers }
@@ -160,6 +189,8 @@ impl Counters {
             connections_closed_invalid: self.invalid,
             connections_closed_max_lifetime: self.max_lifetime,
             connections_closed_idle_timeout: self.idle_timeout,
+            connections_closed_retired: self.retired,
+            connections_detached: self.detached,
         }
     }
 }

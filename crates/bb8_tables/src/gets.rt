@@ -1,5 +1,5 @@
 //! The gets of a pool.
-ghost use Rattle.std.specs.Prelude.{◌⊎◌, ◌≡◌, ◌+◌, ◌<◌, ◌≤◌, max, min, true, false, IsSome, is_some, ltb, slice_get, IfSome, IfNone, OnOk, OnErr, Some, None};
+ghost use Rattle.std.specs.Prelude.{◌⊎◌, ◌≡◌, ◌+◌, ◌<◌, ◌≤◌, max, min, true, false, IsSome, is_some, ltb, length, slice_get, IfSome, IfNone, OnOk, OnErr, Some, None};
 ghost use Rattle.std.specs.FinMap as map;
 ghost use Rattle.bb8_types.specs.declared.standing.Getting.{Getting};
 ghost use Rattle.bb8_types.specs.declared.standing.GetPlace.TheVariants.{Active, Holding};
@@ -137,6 +137,13 @@ impl Gets {
         self.alive
     }
 
+    /// How many waiters were not notified.
+    pub fn unnotified(&self) -> u64
+        ensures { result ≡ length self.now.waiting }
+    {
+        self.slots.len() as u64
+    }
+
     /// Makes room for a higher peak. Waiting needs no memory.
     #[cold]
     fn make_room(&mut self) -> Result<(), AllocError>
@@ -214,7 +221,8 @@ impl Gets {
         GetKey { number, place }
     }
 
-    /// Begins a get of the next number that waits at once, since this moment, for which there is room.
+    /// Begins a get of the next number that waits at once, since this moment, for which there is
+    /// room.
     #[inline(always)]
     pub fn bear_waiting(&mut self, now: u64, lendings: &mut Lendings) -> GetKey
         requires room { self.old.alive < self.old.peak }
@@ -276,7 +284,8 @@ impl Gets {
         Some(self.bear())
     }
 
-    /// Has a get wait, which did not wait or was notified, since this moment if it did not wait before.
+    /// Has a get wait, which did not wait or was notified, since this moment if it did not wait
+    /// before.
     pub fn wait(&mut self, g: GetKey, now: u64, lendings: &mut Lendings)
         requires stands { (x : Getting) × (map.get self.old.places g.number ≡ Some x)
             × (places.is_unnotified x.place ≡ false) }
@@ -293,7 +302,8 @@ impl Gets {
         }
     }
 
-    /// Has a get stand elsewhere that stands in no line: it holds a connection now, or is active again.
+    /// Has a get stand elsewhere that stands in no line: it holds a connection now, or is active
+    /// again.
     pub fn turn(&mut self, g: GetKey, place: GetPlace, lendings: &mut Lendings)
         requires off { places.is_unnotified place ≡ false }
         requires stands { (x : Getting) × (map.get self.old.places g.number ≡ Some x)
@@ -329,7 +339,8 @@ impl Gets {
         }
     }
 
-    /// Has a get that holds a connection be active again, and tells which it held. Where it holds none nothing changes. It looks for it once.
+    /// Has a get that holds a connection be active again, and tells which it held. Where it holds
+    /// none nothing changes. It looks for it once.
     #[inline]
     pub fn let_go(&mut self, g: GetKey, lendings: &mut Lendings) -> Option<u64>
         ensures some { IfSome result (λ k.
@@ -353,7 +364,8 @@ impl Gets {
         }
     }
 
-    /// Ends a get that is alive and holds nothing, and tells how it stood. Where there is none nothing changes. It looks for it once.
+    /// Ends a get that is alive and holds nothing, and tells how it stood. Where there is none
+    /// nothing changes. It looks for it once.
     #[inline(always)]
     pub fn end(&mut self, g: GetKey, lendings: &mut Lendings) -> Option<Getting>
         ensures some { IfSome result (λ x. (map.get self.old.places g.number ≡ Some x)
@@ -396,7 +408,8 @@ impl Gets {
         }
     }
 
-    /// Ends a get that holds a connection, and tells which, and when it first waited. Where it holds none nothing changes. It looks for it once.
+    /// Ends a get that holds a connection, and tells which, and when it first waited. Where it
+    /// holds none nothing changes. It looks for it once.
     #[inline(always)]
     pub fn finish_holding(
         &mut self,

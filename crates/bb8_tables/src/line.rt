@@ -1,4 +1,5 @@
-//! Places in an order that links from place to place keep: a place enters at the new end, and leaves wherever it stands.
+//! Places in an order that links from place to place keep: a place enters at the new end, and
+//! leaves wherever it stands.
 ghost use Rattle.std.specs.Prelude.{◌≡◌, ◌≢◌, ℕ, List, ◌+◌, ◌-◌, ◌<◌, ◌≤◌, ◌++◌, ◌∷◌, [], length, slice_get, Some, OnOk, OnErr};
 ghost use Rattle.std.specs.Vec.{vec_len};
 ghost use Rattle.bb8_tables.specs.Ordered.{Ordered, most_places, after_of, before_of, JoinsAt};

@@ -29,8 +29,9 @@ pub use reaps::Reaped;
 use std::alloc::{AllocError, Global};
 use std::marker::Model;
 
-/// The table of connections and approvals, with the line of unclaimed approvals and its counters. In the table's line are the idle
-/// connections, by their last entry; in its order of births all connections, idle or out.
+/// The table of connections and approvals, with the line of unclaimed approvals and its counters.
+/// In the table's line are the idle connections, by their last entry; in its order of births all
+/// connections, idle or out.
 #[derive(Drop)]
 pub struct Records<C> {
     next: u64,
@@ -217,6 +218,22 @@ impl<C: Drop> Records<C> {
         }
     }
 
+    /// When the connection became idle that is first of the idle ones. One entry is lent.
+    #[inline]
+    pub fn first_entered(&self, strategy: QueueStrategy, lendings: &mut Lendings) -> Option<u64>
+        ensures some { IfSome result (λ n. (k : ℕ) → places.first_of strategy self.now.idle
+            ≡ Some k → n ≡ places.entered_in (map.get self.now.places k)) }
+        ensures none { IfNone result (places.first_of strategy self.now.idle ≡ None) }
+        ensures examined { AddsLent (numbered.one (is_some result)) 0 lendings.old lendings.new }
+        ensures counted { min (lendings.old.lent + numbered.one (is_some result)) end_of_numbers
+            ≤ lendings.new.lent }
+    {
+        match self.slots.first_by(strategy) {
+            None => None,
+            Some(place) => Some(self.slots.at(place, lendings).standing.entered),
+        }
+    }
+
     /// Takes out the idle connection that is first, for whoever holds it from now on.
     #[inline(always)]
     pub fn take(
@@ -271,8 +288,9 @@ impl<C: Drop> Records<C> {
         }
     }
 
-    /// Makes a connection idle that a claimed approval brought, and that is born now. Where the number is no claimed approval the connection
-    /// comes back, and nothing changes. No birth and no entry may lie after `now`. It looks for the approval once.
+    /// Makes a connection idle that a claimed approval brought, and that is born now. Where the
+    /// number is no claimed approval the connection comes back, and nothing changes. No birth and
+    /// no entry may lie after `now`. It looks for the approval once.
     pub fn enter(&mut self, k: Key, conn: C, now: u64, lendings: &mut Lendings) -> Result<(), C>
         requires { NoneAfter now self.old }
         ensures ok { IfOk result (λ u. (places.stands places.is_claimed
@@ -307,9 +325,11 @@ impl<C: Drop> Records<C> {
         }
     }
 
-    /// Takes back a connection that somebody holds, which is idle again and keeps its birth. Where it is broken, or older than `greatest_age`, or
-    /// the pool has ended, it is handed back instead, with whether it is older than that, and nothing changes. Where the holder does not have
-    /// it, it comes back, and nothing changes. No birth and no entry may lie after `now`. It looks for the connection once.
+    /// Takes back a connection that somebody holds, which is idle again and keeps its birth. Where
+    /// it is broken, or older than `greatest_age`, or the pool has ended, it is handed back
+    /// instead, with whether it is older than that, and nothing changes. Where the holder does not
+    /// have it, it comes back, and nothing changes. No birth and no entry may lie after `now`. It
+    /// looks for the connection once.
     #[inline(always)]
     pub fn put_back(
         &mut self,
@@ -333,6 +353,7 @@ impl<C: Drop> Records<C> {
             × ((broken || (x.1 || ended)) ≡ true) × (self.new ≡ self.old))) }
         ensures unfit { IfErr result (λ c. (c ≡ conn) × (self.new ≡ self.old)
             × (places.stands (holders.is_with holder) (map.get self.old.places k.number) ≡ false)) }
+        ensures numbers { self.old.next ≤ end_of_numbers }
         ensures examined { AddsLent 2 1 lendings.old lendings.new }
     {
         match self.slots.locate(k.number, k.place, lendings) {
@@ -359,7 +380,8 @@ impl<C: Drop> Records<C> {
         }
     }
 
-    /// Ends a claimed approval, and tells whether the number is one. Where it is none nothing changes. It looks for it once.
+    /// Ends a claimed approval, and tells whether the number is one. Where it is none nothing
+    /// changes. It looks for it once.
     pub fn end_claimed(&mut self, k: Key, lendings: &mut Lendings) -> bool
         ensures ended { result ≡ true → (places.stands places.is_claimed
             (map.get self.old.places k.number) ≡ true)
@@ -457,7 +479,8 @@ impl<C: Drop> Records<C> {
         }
     }
 
-    /// Ends all that nobody holds or claimed: the idle connections, which are counted and offered to a list, and the unclaimed approvals.
+    /// Ends all that nobody holds or claimed: the idle connections, which are counted and offered
+    /// to a list, and the unclaimed approvals.
     pub fn leave(&mut self, closed: &mut ClosedList<C>) -> u32
         ensures many { result ≡ length self.old.idle }
         ensures listed { closed.new ≡ offered_all (closed_of self.old.idle self.old.places)
@@ -519,8 +542,8 @@ impl<C: Drop> Records<C> {
         Key { number, place }
     }
 
-    /// Adds an idle connection that was born now. Memory is asked for only where there are as many records as ever were. No birth and no
-    /// entry may lie after `now`.
+    /// Adds an idle connection that was born now. Memory is asked for only where there are as many
+    /// records as ever were. No birth and no entry may lie after `now`.
     pub fn add(&mut self, conn: C, now: u64) -> Result<Key, C>
         requires moments { NoneAfter now self.old }
         requires few { self.old.conns + self.old.approved < most_records }
@@ -566,7 +589,8 @@ impl<C: Drop> Records<C> {
         self.approved += 1;
     }
 
-    /// Grants the approvals that are due, as far as there is room and memory. All room is made before the first one.
+    /// Grants the approvals that are due, as far as there is room and memory. All room is made
+    /// before the first one.
     #[cold]
     fn grant_some(&mut self, due: u64, claimed: bool) -> Grant
         requires { self.old.conns + self.old.approved + due ≤ most_records }

@@ -58,8 +58,9 @@ impl Vacant for Getting {
     }
 }
 
-/// Places, with the line of those that stand in it, and those of connections by birth. Ended places are used again, the last one first. No
-/// place is the first one, which stands for the ends of both orders.
+/// Places, with the line of those that stand in it, and those of connections by birth. Ended places
+/// are used again, the last one first. No place is the first one, which stands for the ends of both
+/// orders.
 #[derive(Drop)]
 pub struct Table<S> {
     slots: Vec<Slot<S>>,
@@ -191,7 +192,8 @@ impl<S: Drop> Table<S> {
         }
     }
 
-    /// What stands under the number: at the hint, or else where a search finds it, which is counted. One entry is lent.
+    /// What stands under the number: at the hint, or else where a search finds it, which is
+    /// counted. One entry is lent.
     #[inline]
     pub fn slot(&self, number: u64, hint: usize, lendings: &mut Lendings) -> Option<&Slot<S>>
         ensures some { IfSome (option_copied result)
@@ -277,7 +279,8 @@ impl<S: Drop> Table<S> {
         self.births.first()
     }
 
-    /// What stands at a place, and the place after it in the order of births. One entry is lent for both.
+    /// What stands at a place, and the place after it in the order of births. One entry is lent for
+    /// both.
     #[inline]
     pub fn pass(&self, place: usize, lendings: &mut Lendings) -> (&Slot<S>, Option<usize>)
         requires member { (j : ℕ) × (slice_get self.now.births j ≡ Some place) }
@@ -445,8 +448,9 @@ impl<S: Drop + Vacant> Table<S> {
         Ok(())
     }
 
-    /// Makes room for so many more in all. Where there is none yet, as many places more are added as there are, up to `MOST_AT_ONCE`, so that
-    /// most calls find room; where memory for those is refused, as many as are missing.
+    /// Makes room for so many more in all. Where there is none yet, as many places more are added
+    /// as there are, up to `MOST_AT_ONCE`, so that most calls find room; where memory for those is
+    /// refused, as many as are missing.
     pub fn reserve(&mut self, additional: usize) -> Result<(), AllocError>
         ensures room { OnOk result (additional ≤ self.new.free) }
         ensures more { self.old.free ≤ self.new.free }

@@ -33,7 +33,8 @@ module _ (timeout : ℕ) (retry : Bool) where
       omega arith
 
   module _ (n : ℕ) (on : retry ≡ true) (small : n < 70) (half : 0 < timeout / 2) (within : waits timeout n ≤ timeout) (past : timeout < waits timeout (suc n)) where
-    -- what is left of a list that reaches the bound, at a task that tries again after so many failures
+    -- what is left of a list that reaches the bound, at a task that tries again after so many
+    -- failures
     record IsLeft (latest start : ℕ) (failures : ℕ) (polls : List (Moment × Reply)) : Type 0 where
       from : IsFrom latest polls
       falls : NeverFalls polls
@@ -101,7 +102,8 @@ module _ (timeout : ℕ) (retry : Bool) where
               ];
         }
 
-    -- from a task that tries again after so many failures, a list that polls at each due moment leads to the bound
+    -- from a task that tries again after so many failures, a list that polls at each due moment
+    -- leads to the bound
     driven : (x : Task) (t : Tries) (d : Moment) (polls : List (Moment × Reply)) (answers : List (ReplenishAnswer (Unit {0}))) (tries : ℕ) (x' : Task)
         → x.stage ≡ Sleeping t (Some d) → t.failures ≤ n + 1 → d.0 ≡ t.start.0 + waits timeout t.failures → t.start.0 + waits timeout (n + 1) ≤ last_moment
         → IsLeft x.latest.0 t.start.0 t.failures polls → Runs timeout retry x polls answers tries x' → tries + t.failures ≡ n + 2

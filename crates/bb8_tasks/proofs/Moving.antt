@@ -95,7 +95,8 @@ module _ (timeout : ℕ) (retry : Bool) (m : Moment) where
         (λ now. begins reply tries x x' next is (r.0 now), λ later. let b = r.1 later in (ap (λ (y : Scripted). y.tries) (b.2 ∙ is), b.1))
     turns reply Done x x' next is r = (ap (λ (y : Scripted). y.tries) (r.2 ∙ is), r.1)
 
--- the moment of a poll: the greater of the clock's and the one of the poll before, but none is taken once the task has ended
+-- the moment of a poll: the greater of the clock's and the one of the poll before, but none is
+-- taken once the task has ended
 abbrev pub IsMoment : Moment → Moment → Standing → Moment → Type 0
 IsMoment at latest Done m = m ≡ latest
 IsMoment at latest stage m = m.0 ≡ max at.0 latest.0

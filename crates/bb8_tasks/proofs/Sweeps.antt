@@ -45,7 +45,8 @@ module _ {T E X : Type 0} (polls : T → X → ReplenishAnswer E → T → X →
         rw (stays, same) (before, again, y, each, (u, u', after ++ t ∷ [], p, stop, rw ts (append_assoc before (u ∷ after) (t ∷ [])), rw left (append_assoc again after (t ∷ [])))),
       )
 
-  -- so many tasks at the front of the queue still have their turn, and behind them stand those that had it and are kept
+  -- so many tasks at the front of the queue still have their turn, and behind them stand those that
+  -- had it and are kept
   abbrev pub RoundMidway : List T → X → List T → X → Option E → ℕ → Type 0
   RoundMidway first start queue x stopped count =
       (had : List T) × (ahead : List T) × (behind : List T) × (length ahead ≡ count) × (queue ≡ ahead ++ behind) × (first ≡ had ++ ahead)

@@ -3,7 +3,8 @@ use Rattle.std.specs.Prelude.{◌≡◌, ℕ, ◌+◌, ◌/◌, ◌<◌, ◌≤�
 use Rattle.bb8_tasks.specs.Words.{Moment, last_moment, waits, IsMostWaits, Reply}
 use Rattle.bb8_tasks.specs.declared.backoff.Reply.TheVariants.{Err}
 
--- Where half the timeout is not zero: at most two more than the most first waits whose sum is at most the timeout, and there is such a number.
+-- Where half the timeout is not zero: at most two more than the most first waits whose sum is at
+-- most the timeout, and there is such a number.
 abbrev pub IsBounded : ℕ → ℕ → Type 0
 IsBounded timeout tries = 0 < timeout / 2 → (n : ℕ) × IsMostWaits timeout n × (tries ≤ n + 2)
 
@@ -27,8 +28,9 @@ abbrev pub IsPolledAt : ℕ → List (Moment × Reply) → Type 0
 IsPolledAt m [] = ⊥
 IsPolledAt m (p ∷ polls) = (p.0.0 ≡ m) ⊎ IsPolledAt m polls
 
--- A list that is not empty, whose moments never fall, whose replies are errors, and that polls at each due moment: the first moment and the
--- first k waits, k from 1 to n + 1. None of these is past the greatest moment.
+-- A list that is not empty, whose moments never fall, whose replies are errors, and that polls at
+-- each due moment: the first moment and the first k waits, k from 1 to n + 1. None of these is past
+-- the greatest moment.
 abbrev pub IsDriven : ℕ → ℕ → List (Moment × Reply) → Type 0
 IsDriven timeout n [] = ⊥
 IsDriven timeout n (p ∷ polls) =

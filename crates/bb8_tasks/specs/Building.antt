@@ -1,4 +1,5 @@
--- The table of the polls of a building, over whatever makes the pool and its first tasks, and whatever a round of these does.
+-- The table of the polls of a building, over whatever makes the pool and its first tasks, and
+-- whatever a round of these does.
 use Rattle.std.specs.Prelude.{◌≡◌, Result, Ok, Err}
 use Rattle.bb8_tasks.specs.Words.{Poll, Ready, Pending, Round}
 use Rattle.bb8_types.specs.declared.api.errors.Memory.{Memory}
@@ -9,7 +10,8 @@ use Rattle.bb8_tasks.specs.declared.building.BuildingStage.TheVariants.{Planned,
 use Rattle.bb8_tasks.specs.declared.rounds.Round.TheVariants.{Failed, Complete, Going}
 
 module _ {I P T E : Type 0} (rounds : P → T → Round T E → Type 0) where
-  -- After a round of the tasks: the first failure ends the building with its error, and the pool is the answer where no task is left.
+  -- After a round of the tasks: the first failure ends the building with its error, and the pool is
+  -- the answer where no task is left.
   abbrev pub AfterFirstRound : Round T E → P → Poll (Result P (RunError E)) → BuildingStage I P T → Type 0
   AfterFirstRound (Failed e) p r s = (r ≡ Ready (Err (errors.User e))) × (s ≡ Done)
   AfterFirstRound Complete p r s = (r ≡ Ready (Ok p)) × (s ≡ Done)
@@ -25,7 +27,8 @@ module _ {I P T E : Type 0} (makes : I → Result (P × T) Memory → Type 0) (r
   AfterMake (Ok made) r s = Sweeps rounds made.0 made.1 r s
   AfterMake (Err refused) r s = (r ≡ Ready (Err errors.Memory)) × (s ≡ Done)
 
-  -- The whole poll: the first makes the pool, and each polls the tasks that are left. After the answer it is pending, and nothing changes.
+  -- The whole poll: the first makes the pool, and each polls the tasks that are left. After the
+  -- answer it is pending, and nothing changes.
   abbrev pub BuildingPolls : BuildingStage I P T → Poll (Result P (RunError E)) → BuildingStage I P T → Type 0
   BuildingPolls (Planned i) r s = (made : Result (P × T) Memory) × makes i made × AfterMake made r s
   BuildingPolls (Opening p ts) r s = Sweeps rounds p ts r s

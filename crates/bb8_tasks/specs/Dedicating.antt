@@ -20,14 +20,16 @@ module _ {C V A : Type 0} where
   abbrev pub OpeningStandsAt : {E : Type 0} → Poll (Result C E) → Opening C V A → Opened C V A E → Type 0
   OpeningStandsAt answer stage next = (next.answer ≡ answer) × (next.stage ≡ stage)
 
--- what an opening that stands so holds is let go: what is under way ends, and the connection that was prepared is dropped then
+-- what an opening that stands so holds is let go: what is under way ends, and the connection that
+-- was prepared is dropped then
 abbrev pub DropsOpening : {C E V A W : Type 0} → OpenerOf W C E V A → Opening C V A → W → W → Type 0
 DropsOpening opener (Connecting connecting) w w' = opener.ends_connect w connecting w'
 DropsOpening {W = W} opener (Acquiring c acquiring) w w' = (w1 : W) × opener.ends_acquire w acquiring w1 × opener.lets_go w1 c w'
 DropsOpening opener stage w w' = w' ≡ w
 
 module _ {C E V A W : Type 0} (opener : OpenerOf W C E V A) (m : Moment) where
-  -- after a poll of the preparation, which left the connection and the preparation like this: one that has answered ends first
+  -- after a poll of the preparation, which left the connection and the preparation like this: one
+  -- that has answered ends first
   abbrev pub AfterOpeningAcquire : Poll (Result (Unit {0}) E) → C → A → W → Opened C V A E → W → Type 0
   AfterOpeningAcquire Pending c acquiring w next w' = OpeningStandsAt Pending (Acquiring c acquiring) next × (w' ≡ w)
   AfterOpeningAcquire (Ready (Ok u)) c acquiring w next w' = opener.ends_acquire w acquiring w' × OpeningStandsAt (Ready (Ok c)) Done next
@@ -66,7 +68,8 @@ module _ {C E V A W : Type 0} (opener : OpenerOf W C E V A) (m : Moment) where
   OpeningAdvances Done w next w' = OpeningStandsAt Pending Done next × (w' ≡ w)
 
 module _ {C E V A W : Type 0} (opener : OpenerOf W C E V A) where
-  -- a poll of an opening that was not answered: the clock is read, and its moment is the greatest reading so far
+  -- a poll of an opening that was not answered: the clock is read, and its moment is the greatest
+  -- reading so far
   abbrev pub OpeningTurns : Dedicated C V A → W → Poll (Result C E) → Dedicated C V A → W → Type 0
   OpeningTurns d w answer d' w' =
       (at : Moment) × (w1 : W) × opener.tells w at w1 × (d'.latest.0 ≡ max at.0 d.latest.0)

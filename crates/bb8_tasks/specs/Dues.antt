@@ -20,7 +20,8 @@ tick_due None = None
 tick_due (Some r) = r.due
 
 module _ {C V A : Type 0} where
-  -- when a task that stands so is to be polled: once it has slept, or else at once; one that has ended, never
+  -- when a task that stands so is to be polled: once it has slept, or else at once; one that has
+  -- ended, never
   abbrev pub poll_due : ReplenishStage C V A → Option Moment
   poll_due Start = Some (record { 0 = 0 })
   poll_due (Connecting tries connecting) = Some (record { 0 = 0 })
@@ -32,7 +33,8 @@ module _ {C V A : Type 0} where
   abbrev pub earliest : Option Moment → List (Replenish C V A) → Option Moment
   earliest = fold (λ due t. earlier due (poll_due t.stage))
 
-  -- the reaper's next tick, or a poll of a task, whichever is earlier; nothing once the driver has ended
+  -- the reaper's next tick, or a poll of a task, whichever is earlier; nothing once the driver has
+  -- ended
   abbrev pub driver_due : Turning C V A → Option Moment
   driver_due (Going reaper ts) = earliest (tick_due reaper) ts
   driver_due Ended = None

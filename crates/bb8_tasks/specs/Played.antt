@@ -8,7 +8,7 @@ use Rattle.bb8_core.specs.declared.answers.OpenedAnswer.TheVariants as opening
 use Rattle.bb8_core.specs.declared.answers.ReapAnswer.TheVariants as reaping
 use Rattle.bb8_core.specs.declared.answers.ClaimAnswer.TheVariants as claiming
 use Rattle.bb8_tasks.specs.Replenishing.{fresh, TaskPolls}
-use Rattle.bb8_tasks.specs.TaskSteps.{TaskStep, Looks, Opens, Fails, Claims, Reaps}
+use Rattle.bb8_tasks.specs.TaskSteps.{TaskStep, Looks, Opens, Fails, Claims, Reaps, Asks}
 
 -- the answer of a poll of an opening that a reply stands for
 abbrev pub told : Reply → Poll (Result (Unit {0}) (Unit {0}))
@@ -20,7 +20,8 @@ told replies.Err = Ready (Err tt)
 abbrev pub begun : Scripted → Scripted
 begun script = record { reply = script.reply; tries = min (script.tries + 1) 255 }
 
--- the relations of the value of a replay as an opener: it answers by its reply, and its preparations are ready at once
+-- the relations of the value of a replay as an opener: it answers by its reply, and its
+-- preparations are ready at once
 abbrev pub scripted : OpenerOf Scripted (Unit {0}) (Unit {0}) (Unit {0}) (Unit {0})
 scripted = record {
   tells = λ script _ after. after ≡ script;
@@ -34,13 +35,15 @@ scripted = record {
   lets_go = λ script _ after. after ≡ script;
 }
 
--- what it answers as a home: it keeps a handle, enters what is opened, and has nothing to claim and nothing to reap
+-- what it answers as a home: it keeps a handle, enters what is opened, and has nothing to claim, to
+-- reap or to ask for
 abbrev pub IsSteady : Moment → TaskStep (Unit {0}) → Type 0
 IsSteady at (Looks seen) = seen ≡ record { moment = at; alive = true }
 IsSteady at (Opens a c step) = step ≡ Ok (opening.Entered None)
 IsSteady at (Fails a step) = step ≡ Ok failing.GivenBack
 IsSteady at (Claims answer) = answer ≡ claiming.Claimed None
 IsSteady at (Reaps step) = step ≡ reaping.Ended
+IsSteady at (Asks grant) = grant ≡ record { first = 0; count = 0; withheld = 0 }
 
 abbrev pub steady : HomeOf Scripted (Unit {0})
 steady = record { steps = λ script at step after. IsSteady at step × (after ≡ script) }

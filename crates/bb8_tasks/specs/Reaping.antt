@@ -5,8 +5,8 @@ use Rattle.bb8_core.specs.declared.answers.ReapAnswer.TheVariants as reap
 use Rattle.bb8_tasks.specs.declared.reaper.ReaperAnswer.TheVariants.{Idle, Reaped, Ended}
 use Rattle.bb8_tasks.specs.TaskSteps as task
 
--- The first tick after a moment, where the ticks are the start and a multiple of the rate, from the first multiple on. There is none where each
--- tick after the moment is past the greatest moment.
+-- The first tick after a moment, where the ticks are the start and a multiple of the rate, from the
+-- first multiple on. There is none where each tick after the moment is past the greatest moment.
 abbrev pub IsNextTick : Moment → ℕ → Moment → Option Moment → Type 0
 IsNextTick start rate m (Some due) =
     (j : ℕ) × (1 ≤ j) × (due.0 ≡ start.0 + j * rate) × (m.0 < due.0) × ((i : ℕ) → 1 ≤ i → m.0 < start.0 + i * rate → j ≤ i)
@@ -40,7 +40,8 @@ module _ {C H : Type 0} (home : HomeOf H C) where
       (Stands t t.due true t' × (r ≡ Ended) × (h' ≡ h))
 
 module _ {C H : Type 0} (home : HomeOf H C) (at : Moment) where
-  -- a poll of a reaper that has not ended: its moment is the greater of what the look answers and the moment of the poll before
+  -- a poll of a reaper that has not ended: its moment is the greater of what the look answers and
+  -- the moment of the poll before
   abbrev pub Looks : Reaper → H → ReaperAnswer → Reaper → H → Type 0
   Looks t h r t' h' =
       (seen : Looked) × (h1 : H) × home.steps h at (task.Looks seen) h1

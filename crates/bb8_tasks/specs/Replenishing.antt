@@ -1,4 +1,5 @@
--- The table of a replenishing's polls, over the relations of any value that is a home and an opener: one chain of steps and calls.
+-- The table of a replenishing's polls, over the relations of any value that is a home and an
+-- opener: one chain of steps and calls.
 use Rattle.std.specs.Prelude.{◌≡◌, ℕ, ◌+◌, ◌-◌, ◌<◌, ◌≤◌, max, min, Bool, true, false, Option, Some, None, Result, Ok, Err, ◌⊎◌}
 use Rattle.bb8_tasks.specs.Words.{MatchBool, Poll, Ready, Pending, Moment, last_moment, Key, wait, Looked, FailedAnswer, HomeOf, OpenedAnswer, OpenerOf, Unfit, Replenish, ReplenishAnswer}
 use Rattle.bb8_core.specs.declared.answers.OpenedAnswer.TheVariants as opened
@@ -9,7 +10,8 @@ use Rattle.bb8_tasks.specs.declared.replenish.ReplenishStage.{ReplenishStage}
 use Rattle.bb8_tasks.specs.declared.replenish.Tries.{Tries}
 use Rattle.bb8_tasks.specs.TaskSteps as task
 
--- the moment at which a task that slept from m on wakes: none, and so never, where it is past the greatest moment
+-- the moment at which a task that slept from m on wakes: none, and so never, where it is past the
+-- greatest moment
 abbrev pub IsDue : Moment → ℕ → Option Moment → Type 0
 IsDue m span (Some due) = due.0 ≡ m.0 + span
 IsDue m span None = last_moment < m.0 + span
@@ -28,7 +30,8 @@ module _ {C V A : Type 0} where
   is_done Done = true
   is_done _ = false
 
--- what a task that stands so holds is let go: what is under way ends, and the connection that was prepared is dropped then
+-- what a task that stands so holds is let go: what is under way ends, and the connection that was
+-- prepared is dropped then
 abbrev pub DropsTask : {C E V A X : Type 0} → OpenerOf X C E V A → ReplenishStage C V A → X → X → Type 0
 DropsTask opener (Connecting tries connecting) x x' = opener.ends_connect x connecting x'
 DropsTask {X = X} opener (Acquiring tries c acquiring) x x' = (x1 : X) × opener.ends_acquire x acquiring x1 × opener.lets_go x1 c x'
@@ -65,8 +68,9 @@ module _ {C E V A X : Type 0} (home : HomeOf X C) (timeout : ℕ) (retry : Bool)
     abbrev pub Enters : C → X → ReplenishStep C V A E → X → Type 0
     Enters c x next x' = (step : Result (OpenedAnswer C) C) × (x1 : X) × home.steps x m (task.Opens approval c step) x1 × AfterOpened step x1 next x'
 
-    -- after a poll of the preparation, which left the connection and the preparation like this: one that has answered ends first, and a
-    -- connection that it failed is dropped before the failure is a step of the home
+    -- after a poll of the preparation, which left the connection and the preparation like this: one
+    -- that has answered ends first, and a connection that it failed is dropped before the failure
+    -- is a step of the home
     abbrev pub AfterTaskAcquire : Poll (Result (Unit {0}) E) → Tries → C → A → X → ReplenishStep C V A E → X → Type 0
     AfterTaskAcquire Pending tries c acquiring x next x' = TaskStandsAt answers.Pending (Acquiring tries c acquiring) x next x'
     AfterTaskAcquire (Ready (Ok u)) tries c acquiring x next x' = (x1 : X) × opener.ends_acquire x acquiring x1 × Enters c x1 next x'
@@ -118,20 +122,22 @@ module _ {C E V A X : Type 0} (home : HomeOf X C) (timeout : ℕ) (retry : Bool)
     TaskProceeds false stage x next x' = (x1 : X) × DropsTask opener stage x x1 × GivesApprovalBack answers.GivenBack x1 next x'
 
 module _ {C E V A X : Type 0} (home : HomeOf X C) (opener : OpenerOf X C E V A) where
-  -- a poll of a task that has not ended: its moment is the greater of what the look answers and the moment of the poll before
+  -- a poll of a task that has not ended: its moment is the greater of what the look answers and the
+  -- moment of the poll before
   abbrev pub TaskTurns : ℕ → Bool → Moment → Replenish C V A → X → ReplenishAnswer E → Replenish C V A → X → Type 0
   TaskTurns timeout retry at t x answer t' x' =
       (seen : Looked) × (x1 : X) × home.steps x at (task.Looks seen) x1
       × (t'.latest.0 ≡ max seen.moment.0 t.latest.0) × (t'.approval ≡ t.approval)
       × TaskProceeds home timeout retry t.approval t'.latest opener seen.alive t.stage x1 (record { answer = answer; stage = t'.stage }) x'
 
-  -- The whole poll at a reading of the clock: what it answers, and the task, and the home and the opener then. A task that has ended makes
-  -- no call.
+  -- The whole poll at a reading of the clock: what it answers, and the task, and the home and the
+  -- opener then. A task that has ended makes no call.
   abbrev pub TaskPolls : ℕ → Bool → Moment → Replenish C V A → X → ReplenishAnswer E → Replenish C V A → X → Type 0
   TaskPolls timeout retry at t x answer t' x' =
       MatchBool (is_done t.stage) ((answer ≡ answers.GivenBack) × (t' ≡ t) × (x' ≡ x)) (TaskTurns timeout retry at t x answer t' x')
 
-  -- a task that is let go: where it has not ended, what it holds is let go, and its approval is given back then
+  -- a task that is let go: where it has not ended, what it holds is let go, and its approval is
+  -- given back then
   abbrev pub LetsGo : Moment → Replenish C V A → X → X → Type 0
   LetsGo at t x x' =
       MatchBool (is_done t.stage) (x' ≡ x)

@@ -1,4 +1,5 @@
--- A round over a list of tasks in which each is polled once, over any poll of a task and over any sink.
+-- A round over a list of tasks in which each is polled once, over any poll of a task and over any
+-- sink.
 use Rattle.std.specs.Prelude.{◌≡◌, List, [], ◌∷◌, ◌++◌}
 use Rattle.bb8_tasks.specs.Words.{ReplenishAnswer, Retrying, Failed}
 use Rattle.bb8_tasks.specs.declared.replenish.ReplenishAnswer.TheVariants.{Pending}

@@ -33,8 +33,8 @@ module _ {T E X : Type 0} (polls : T → X → ReplenishAnswer E → T → X →
   GoesOn t x r t' x' = polls t x r t' x' × (stops on_failure r ≡ None)
 
   module _ (sinks : X → E → X → Type 0) where
-    -- The tasks are polled in their order, each once, up to one that stops the round. Left are those that asked to be polled again, and those
-    -- that were not polled, in their order.
+    -- The tasks are polled in their order, each once, up to one that stops the round. Left are
+    -- those that asked to be polled again, and those that were not polled, in their order.
     abbrev pub PollsUntil : List T → X → Option E → List T → X → Type 0
     PollsUntil ts x None left x' = PollsEach GoesOn sinks ts x left x'
     PollsUntil ts x (Some e) left x' =
@@ -47,8 +47,8 @@ module _ {T E X : Type 0} (polls : T → X → ReplenishAnswer E → T → X →
     AfterPoll None r x x' = Reports sinks r x x'
     AfterPoll (Some e) r x x' = x' ≡ x
 
-    -- One turn of a queue: where the round goes on its first task is polled, and goes to the back where it is kept; where it stopped the first
-    -- task goes to the back unpolled.
+    -- One turn of a queue: where the round goes on its first task is polled, and goes to the back
+    -- where it is kept; where it stopped the first task goes to the back unpolled.
     abbrev pub QueueTurns : Option E → List T → X → Option E → List T → X → Type 0
     QueueTurns None queue x stopped queue' x' =
         (t : T) × (rest : List T) × (queue ≡ t ∷ rest)

@@ -1,4 +1,5 @@
--- The steps of tasks, of a driver's claims and of its reaper on their home, each with what it was given and what it answered.
+-- The steps of tasks, of a driver's claims and of its reaper on their home, each with what it was
+-- given and what it answered.
 use Rattle.bb8_tables.specs.declared.keys.Key.{Key}
 use Rattle.bb8_core.specs.declared.answers.ClaimAnswer.{ClaimAnswer}
 use Rattle.bb8_core.specs.declared.answers.Looked.{Looked}
@@ -7,6 +8,7 @@ use Rattle.bb8_core.specs.declared.answers.Unfit.{Unfit}
 use Rattle.bb8_core.specs.declared.answers.FailedAnswer.{FailedAnswer}
 use Rattle.bb8_core.specs.declared.answers.OpenedAnswer.{OpenedAnswer}
 use Rattle.bb8_core.specs.declared.answers.ReapAnswer.{ReapAnswer}
+use Rattle.bb8_types.specs.declared.grants.Grant.{Grant}
 
 -- Each step, of which approval, with what is handed in, and its answer.
 pub data TaskStep (C : Type 0) : Type 0 where
@@ -15,3 +17,4 @@ pub data TaskStep (C : Type 0) : Type 0 where
   Fails : Key → Result FailedAnswer Unfit → TaskStep C
   Claims : ClaimAnswer → TaskStep C
   Reaps : ReapAnswer → TaskStep C
+  Asks : Grant → TaskStep C

@@ -1,6 +1,9 @@
--- A turn of a driver, over the relations of any value that is a home and an opener: one chain of steps and calls.
+-- A turn of a driver, over the relations of any value that is a home and an opener: one chain of
+-- steps and calls.
 use Rattle.std.specs.Prelude.{◌≡◌, ℕ, Bool, true, false, ◌||◌, is_some, Option, Some, None, List, [], ◌∷◌, ◌++◌, map, length, ◌⊎◌}
 use Rattle.bb8_tasks.specs.Words.{as_nanos, Moment, Key, HomeOf, OpenerOf, Reaper, ReaperAnswer, Replenish}
+use Rattle.bb8_types.specs.declared.grants.Grant.{Grant}
+use Rattle.bb8_tasks.specs.declared.reaper.ReaperAnswer.TheVariants.{Reaped}
 use Rattle.bb8_types.specs.Settings.{Settings}
 use Rattle.bb8_core.specs.declared.answers.ClaimAnswer.TheVariants as claim
 use Rattle.bb8_tasks.specs.Reaping as reaping
@@ -17,7 +20,8 @@ use Rattle.bb8_tasks.specs.declared.turning.Turning.TheVariants.{Going, Ended}
 abbrev pub has_limit : Settings → Bool
 has_limit s = is_some s.max_lifetime || is_some s.idle_timeout
 
--- there is a reaper where there is a limit; it was not polled yet, and its ticks count from this moment on
+-- there is a reaper where there is a limit; it was not polled yet, and its ticks count from this
+-- moment on
 abbrev pub IsFreshReaper : Settings → Moment → Option Reaper → Type 0
 IsFreshReaper s start None = has_limit s ≡ false
 IsFreshReaper s start (Some r) =
@@ -36,11 +40,18 @@ module _ {C V A : Type 0} where
   is_ended Ended = true
 
 module _ {C H : Type 0} (home : HomeOf H C) (at : Moment) where
-  -- the reaper is polled once, where there is one
+  -- after a reap the home is asked, once, to grant what waiting gets lack; where no tick was due or
+  -- no handle is alive it is not
+  abbrev pub AsksAfter : ReaperAnswer → H → H → Type 0
+  AsksAfter (Reaped closed by_idle by_life granted) h h' = (grant : Grant) × home.steps h at (task.Asks grant) h'
+  AsksAfter _ h h' = h' ≡ h
+
+  -- the reaper is polled once, where there is one, and the home is asked after a reap
   abbrev pub PollsReaper : Option Reaper → H → Option Reaper → H → Type 0
   PollsReaper None h reaper' h' = (reaper' ≡ None) × (h' ≡ h)
   PollsReaper (Some r) h reaper' h' =
-      (answer : ReaperAnswer) × (r' : Reaper) × reaping.ReaperPolls home at r h answer r' h' × (reaper' ≡ Some r')
+      (answer : ReaperAnswer) × (r' : Reaper) × (h1 : H) × reaping.ReaperPolls home at r h answer r' h1 × AsksAfter answer h1 h'
+      × (reaper' ≡ Some r')
 
 module _ {C H : Type 0} (home : HomeOf H C) (at : Moment) where
   -- these approvals are claimed, one after another
@@ -48,13 +59,15 @@ module _ {C H : Type 0} (home : HomeOf H C) (at : Moment) where
   ClaimsEach [] h h' = h' ≡ h
   ClaimsEach (key ∷ keys) h h' = (h1 : H) × home.steps h at (task.Claims (claim.Claimed (Some key))) h1 × ClaimsEach keys h1 h'
 
-  -- why no more are claimed: a claim finds no handle alive; or a claim finds none unclaimed, or there is no place for a task and no claim is made
+  -- why no more are claimed: a claim finds no handle alive; or a claim finds none unclaimed, or
+  -- there is no place for a task and no claim is made
   abbrev pub Stops : Bool → H → H → Type 0
   Stops true h h' = home.steps h at (task.Claims claim.Ended) h'
   Stops false h h' = home.steps h at (task.Claims (claim.Claimed None)) h' ⊎ (h' ≡ h)
 
   module _ {V A : Type 0} where
-    -- approvals are claimed, one after another; their tasks stand behind those that there were, in the order of the claims
+    -- approvals are claimed, one after another; their tasks stand behind those that there were, in
+    -- the order of the claims
     abbrev pub TakesOnEach : List (Replenish C V A) → H → List (Replenish C V A) → H → Type 0
     TakesOnEach ts h ts' h' = (keys : List Key) × ClaimsEach keys h h' × (ts' ≡ ts ++ map fresh keys)
 
@@ -69,7 +82,8 @@ module _ {C E V A X : Type 0} (home : HomeOf X C) (opener : OpenerOf X C E V A) 
   DriverLetsGo Ended x x' = x' ≡ x
 
 module _ {C E V A X : Type 0} (home : HomeOf X C) (opener : OpenerOf X C E V A) (timeout : ℕ) (retry : Bool) (at : Moment) where
-  -- after the claims: each task is polled; or, where no handle is alive, each is let go, and the driver has ended
+  -- after the claims: each task is polled; or, where no handle is alive, each is let go, and the
+  -- driver has ended
   abbrev pub DriverProceeds : Bool → Option Reaper → List (Replenish C V A) → X → Turn → Turning C V A → X → Type 0
   DriverProceeds false reaper ts x turn t' x' =
       (left : List (Replenish C V A)) × PollsEach (TaskPolls home opener timeout retry at) opener.sinks ts x left x'
@@ -77,7 +91,8 @@ module _ {C E V A X : Type 0} (home : HomeOf X C) (opener : OpenerOf X C E V A) 
   DriverProceeds true reaper ts x turn t' x' =
       LetsGoEach (LetsGo home opener at) ts x x' × (turn ≡ record { polled = 0; ended = true }) × (t' ≡ Ended)
 
-  -- A turn: the reaper is polled, approvals are claimed, and the tasks that there are then are polled. One that has ended makes no call.
+  -- A turn: the reaper is polled, after a reap waiting gets are asked for, approvals are claimed,
+  -- and the tasks that there are then are polled. One that has ended makes no call.
   abbrev pub DriverTurns : Turning C V A → X → Turn → Turning C V A → X → Type 0
   DriverTurns (Going reaper ts) x turn t' x' =
       (reaper1 : Option Reaper) × (x1 : X) × PollsReaper home at reaper x reaper1 x1

@@ -10,7 +10,7 @@ use super::opener::Opener;
 use super::replenish::{Replenish, ReplenishAnswer};
 use bb8_core::api::{Config, Memory, Moment};
 use bb8_core::internals::{
-    ClaimAnswer, FailedAnswer, Key, Looked, OpenedAnswer, ReapAnswer, Unfit,
+    ClaimAnswer, FailedAnswer, Grant, Key, Looked, OpenedAnswer, ReapAnswer, Unfit,
 };
 use futures::task::Poll;
 use std::alloc::Global;
@@ -26,8 +26,9 @@ pub enum Reply {
     Err,
 }
 
-/// Answers each poll of an opening by this reply, counts the openings that are begun, and prepares at once. As a home it keeps a handle, enters
-/// what is opened, has nothing to claim or to reap, and its moment is each reading of the clock. Connections are nothing.
+/// Answers each poll of an opening by this reply, counts the openings that are begun, and prepares
+/// at once. As a home it keeps a handle, enters what is opened, has nothing to claim, to reap or to
+/// ask for, and its moment is each reading of the clock. Connections are nothing.
 #[derive(Drop)]
 pub struct Scripted {
     reply: Reply,
@@ -123,6 +124,14 @@ impl Home<()> for Scripted {
     fn reap(&mut self, _at: Moment) -> ReapAnswer {
         ReapAnswer::Ended
     }
+
+    fn ask(&mut self, _at: Moment) -> Grant {
+        Grant {
+            first: 0,
+            count: 0,
+            withheld: 0,
+        }
+    }
 }
 
 /// What a replenishing answered at each poll, and how many openings it began.
@@ -169,11 +178,13 @@ fn play_all(
     Ok(Backoff { answers, tries })
 }
 
-/// Polls a replenishing at these moments, which may go back, with a manager that gives these replies. A handle stays alive, and what is
-/// opened is entered. It refuses only where the list of answers could not grow.
+/// Polls a replenishing at these moments, which may go back, with a manager that gives these
+/// replies. A handle stays alive, and what is opened is entered. It refuses only where the list of
+/// answers could not grow.
 ///
-/// Whatever the moments and the replies, a task begins at most two more openings than the most first waits whose sum is at most the
-/// `connection_timeout`; a timeout below two nanoseconds, whose waits are zero, alone has no such bound.
+/// Whatever the moments and the replies, a task begins at most two more openings than the most
+/// first waits whose sum is at most the `connection_timeout`; a timeout below two nanoseconds,
+/// whose waits are zero, alone has no such bound.
 pub fn replay_backoff(
     alloc: Global,
     config: Config,

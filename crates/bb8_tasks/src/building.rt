@@ -2,8 +2,8 @@
 use bb8_core::api::RunError;
 use futures::task::Poll;
 
-/// Where the building of a pool stands between its polls: an `I` is what the pool is to be made of, a `P` the pool, and a `T` the tasks that
-/// open its first connections.
+/// Where the building of a pool stands between its polls: an `I` is what the pool is to be made of,
+/// a `P` the pool, and a `T` the tasks that open its first connections.
 pub enum BuildingStage<I, P, T> {
     /// It was not polled yet.
     Planned(I),

@@ -5,8 +5,8 @@ use crate::{Home, Tasks};
 use bb8_core::api::Moment;
 use bb8_core::internals::ClaimAnswer;
 
-/// Claims approvals until none is unclaimed, and takes on their tasks. It stops where there is no place for one more task, and there makes
-/// no claim. Whether it stopped as no handle is alive.
+/// Claims approvals until none is unclaimed, and takes on their tasks. It stops where there is no
+/// place for one more task, and there makes no claim. Whether it stopped as no handle is alive.
 pub(crate) fn claim_each<C, V, A, H: Home<C>>(
     tasks: &mut Tasks<C, V, A>,
     at: Moment,

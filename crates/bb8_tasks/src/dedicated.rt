@@ -8,7 +8,8 @@ use bb8_core::api::Moment;
 use futures::task::Poll;
 use std::mem;
 
-/// Where the opening of a dedicated connection stands between its polls. It cannot be let go but by name.
+/// Where the opening of a dedicated connection stands between its polls. It cannot be let go but by
+/// name.
 pub enum Opening<C, V, A> {
     /// It was not polled yet.
     Fresh,
@@ -122,10 +123,11 @@ impl<C, V, A> Opening<C, V, A> {
     }
 }
 
-/// The opening of a connection that no pool counts: a `C` is the connection, a `V` one that is being opened, an `A` a preparation.
-/// Upstream's is an async function.
+/// The opening of a connection that no pool counts: a `C` is the connection, a `V` one that is
+/// being opened, an `A` a preparation. Upstream's is an async function.
 ///
-/// It does nothing until it is polled. It cannot be dropped but by `cancel`, as what it holds is let go.
+/// It does nothing until it is polled. It cannot be dropped but by `cancel`, as what it holds is
+/// let go.
 pub struct Dedicated<C, V, A> {
     /// The greatest reading of the clock so far.
     pub latest: Moment,
@@ -157,9 +159,10 @@ impl<C, V, A> Dedicated<C, V, A> {
 
     /// One poll of the opening, at the greatest reading of the clock so far.
     ///
-    /// It begins one opening at its first poll, and goes on from the opening to the preparation in the same poll. It answers the connection,
-    /// or the first error; a connection whose preparation failed is dropped. An opening or a preparation that has answered ends before what
-    /// follows. After an answer each poll is pending, and calls nothing.
+    /// It begins one opening at its first poll, and goes on from the opening to the preparation in
+    /// the same poll. It answers the connection, or the first error; a connection whose preparation
+    /// failed is dropped. An opening or a preparation that has answered ends before what follows.
+    /// After an answer each poll is pending, and calls nothing.
     pub fn poll<E, W: Opener<C, E, Connecting = V, Acquiring = A>>(
         &mut self,
         outside: &mut W,

@@ -1,5 +1,6 @@
-//! The polled tasks of a pool: the opening of a connection, with its waits between tries, its replay over a list of polls, lists of such
-//! tasks, the opening of a connection that no pool counts, the reaper, and the turns of a driver, which claims approvals and polls their tasks.
+//! The polled tasks of a pool: the opening of a connection, with its waits between tries, its
+//! replay over a list of polls, lists of such tasks, the opening of a connection that no pool
+//! counts, the reaper, and the turns of a driver, which claims approvals and polls their tasks.
 #![tactic(auto)]
 
 mod backoff;

@@ -6,12 +6,13 @@ ghost use Rattle.bb8_types.specs.declared.api.moments.Moment.{Moment as MomentOf
 use bb8_core::api::Moment;
 use futures::task::Poll;
 
-/// The calls by which connections `C` are opened and prepared, which may fail with an `E`, and where they are let go; and those of the pool's
-/// clock and error sink.
+/// The calls by which connections `C` are opened and prepared, which may fail with an `E`, and
+/// where they are let go; and those of the pool's clock and error sink.
 ///
-/// Each call changes the value that it is made of, by a relation that says nothing else and has no default. So a chain of these relations
-/// is the list of all calls, in their order: one that is made twice, left out or made at another place does not fit it. What an opening or a
-/// preparation has begun cannot be let go but by name, too, so its end has its place among them.
+/// Each call changes the value that it is made of, by a relation that says nothing else and has no
+/// default. So a chain of these relations is the list of all calls, in their order: one that is
+/// made twice, left out or made at another place does not fit it. What an opening or a preparation
+/// has begun cannot be let go but by name, too, so its end has its place among them.
 pub trait Opener<C, E> {
     /// A connection that is being opened.
     type Connecting;
@@ -28,17 +29,19 @@ pub trait Opener<C, E> {
     // Holds before an opening is begun, of the opening, and after it.
     ghost connects: { Self → Self.Connecting → Self → Type 0 };
 
-    // Holds before a poll of an opening at a moment, of the answer, of the opening then, and after it.
+    // Holds before a poll of an opening at a moment, of the answer, of the opening then, and after
+    // it.
     ghost connect_answers: { Self → Self.Connecting → MomentOf → PollOf (Result C E) → Self.Connecting → Self → Type 0 };
 
     // Holds before an opening is ended, and after it.
     ghost ends_connect: { Self → Self.Connecting → Self → Type 0 };
 
-    // Holds before a connection's preparation is begun, of the preparation, of the connection then, and after it.
+    // Holds before a connection's preparation is begun, of the preparation, of the connection then,
+    // and after it.
     ghost acquires: { Self → C → Self.Acquiring → C → Self → Type 0 };
 
-    // Holds before a poll of a connection's preparation at a moment, of the answer, of the connection and the preparation then, and after
-    // it.
+    // Holds before a poll of a connection's preparation at a moment, of the answer, of the
+    // connection and the preparation then, and after it.
     ghost acquire_answers: { Self → C → Self.Acquiring → MomentOf → PollOf (Result (Unit {0}) E) → C → Self.Acquiring → Self → Type 0 };
 
     // Holds before a preparation is ended, and after it.

@@ -5,7 +5,7 @@ ghost use Rattle.bb8_tasks.specs.Homes.{TaskStepsBy};
 use super::home::Home;
 use bb8_core::api::Moment;
 use bb8_core::internals::{
-    ClaimAnswer, FailedAnswer, Key, Looked, OpenedAnswer, PoolInternals, ReapAnswer, Unfit,
+    ClaimAnswer, FailedAnswer, Grant, Key, Looked, OpenedAnswer, PoolInternals, ReapAnswer, Unfit,
 };
 
 /// Each step is the state's own.
@@ -30,5 +30,9 @@ impl<C: Drop> Home<C> for PoolInternals<C> {
 
     fn reap(&mut self, at: Moment) -> ReapAnswer {
         PoolInternals::reap(self, at)
+    }
+
+    fn ask(&mut self, at: Moment) -> Grant {
+        PoolInternals::ask(self, at)
     }
 }

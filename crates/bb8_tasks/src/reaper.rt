@@ -17,7 +17,8 @@ pub enum ReaperAnswer {
     Reaped {
         /// How many connections were closed.
         closed: u32,
-        /// How many of them had been idle for the `idle_timeout`, and had not lived for the `max_lifetime`.
+        /// How many of them had been idle for the `idle_timeout`, and had not lived for the
+        /// `max_lifetime`.
         by_idle: u32,
         /// How many of them had lived for the `max_lifetime`.
         by_life: u32,
@@ -28,7 +29,8 @@ pub enum ReaperAnswer {
     Ended,
 }
 
-/// Reaps a pool at its ticks, which are `start + rate`, `start + 2 * rate` and so on. Upstream's is a spawned task.
+/// Reaps a pool at its ticks, which are `start + rate`, `start + 2 * rate` and so on. Upstream's is
+/// a spawned task.
 ///
 /// Of several ticks that it missed it makes up for one, where upstream makes up for each.
 #[derive(Clone, Copy, Debug)]

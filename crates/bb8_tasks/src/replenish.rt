@@ -27,7 +27,8 @@ pub enum ReplenishAnswer<E> {
     Entered,
     /// No handle was alive when the connection came: it was dropped, and the task ended.
     Late,
-    /// The approval was given back, or was not known any more, and the task ended; or it had ended before.
+    /// The approval was given back, or was not known any more, and the task ended; or it had ended
+    /// before.
     GivenBack,
 }
 
@@ -71,7 +72,8 @@ struct PollInput {
     moment: Moment,
 }
 
-/// The moment that lies so far after another. None, and so never, where it is past the greatest moment.
+/// The moment that lies so far after another. None, and so never, where it is past the greatest
+/// moment.
 fn moment_after(moment: Moment, span: Duration) -> Option<Moment>
     ensures { IsDue moment (as_nanos span) result }
 {
@@ -307,10 +309,11 @@ impl PollInput {
     }
 }
 
-/// The opening of the connection of an approval: a `C` is a connection, a `V` one that is being opened, an `A` a preparation.
-/// Upstream's is a spawned task.
+/// The opening of the connection of an approval: a `C` is a connection, a `V` one that is being
+/// opened, an `A` a preparation. Upstream's is a spawned task.
 ///
-/// It does nothing until it is polled. It cannot be dropped but by `give_back`, as its approval goes back to its home.
+/// It does nothing until it is polled. It cannot be dropped but by `give_back`, as its approval
+/// goes back to its home.
 pub struct Replenish<C, V, A> {
     approval: Key,
     latest: Moment,
@@ -347,9 +350,10 @@ impl<C, V, A> Replenish<C, V, A> {
 
     /// One poll of the task over a home, at a reading `at` of the clock.
     ///
-    /// It looks at the home first, and begins one opening at most. A try that failed is made again later, where `retry_connection` is set
-    /// and no more than the `connection_timeout` has passed since the first one; else its approval is given back. After an answer other
-    /// than `Pending` and `Retrying` each poll answers `GivenBack`, calls nothing and changes nothing.
+    /// It looks at the home first, and begins one opening at most. A try that failed is made again
+    /// later, where `retry_connection` is set and no more than the `connection_timeout` has passed
+    /// since the first one; else its approval is given back. After an answer other than `Pending`
+    /// and `Retrying` each poll answers `GivenBack`, calls nothing and changes nothing.
     pub fn poll<E, X: Home<C> + Opener<C, E, Connecting = V, Acquiring = A>>(
         &mut self,
         at: Moment,
@@ -377,7 +381,8 @@ impl<C, V, A> Replenish<C, V, A> {
         answer
     }
 
-    /// When the task is to be polled: a time that has passed where that is at once, and None where it is never.
+    /// When the task is to be polled: a time that has passed where that is at once, and None where
+    /// it is never.
     pub fn next_due(&self) -> Option<Moment>
         ensures { result ≡ poll_due self.now.stage }
     {
@@ -405,7 +410,8 @@ impl<C, V, A> Replenish<C, V, A> {
         }
     }
 
-    /// Lets the task go, at a reading `at` of the clock: where it has not ended, what it holds is dropped, and its approval given back.
+    /// Lets the task go, at a reading `at` of the clock: where it has not ended, what it holds is
+    /// dropped, and its approval given back.
     pub fn give_back<E, X: Home<C> + Opener<C, E, Connecting = V, Acquiring = A>>(
         self,
         at: Moment,

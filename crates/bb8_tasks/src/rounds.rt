@@ -9,7 +9,8 @@ pub enum OnFailure {
     GoOn,
 }
 
-/// Where a round leads that stops at the first failure: a `T` is a list of tasks. It cannot be let go but by name.
+/// Where a round leads that stops at the first failure: a `T` is a list of tasks. It cannot be let
+/// go but by name.
 pub enum Round<T, E> {
     /// A task failed with this error, and all others were let go.
     Failed(E),

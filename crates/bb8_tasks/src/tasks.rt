@@ -30,7 +30,8 @@ fn earlier(one: Option<Moment>, other: Option<Moment>) -> Option<Moment>
 
 /// Tasks, in the order in which their approvals were claimed. Upstream spawns each by itself.
 ///
-/// They cannot be dropped but by `give_back`, as their approvals go back to their home. Contracts see them as the list of the tasks.
+/// They cannot be dropped but by `give_back`, as their approvals go back to their home. Contracts
+/// see them as the list of the tasks.
 pub struct Tasks<C, V, A> {
     queue: VecDeque<Replenish<C, V, A>>,
 }
@@ -54,10 +55,11 @@ impl<C, V, A> Tasks<C, V, A> {
         }
     }
 
-    /// A task for each of `count` claimed approvals, whose numbers are those from `first` on; none was polled yet. It fails where memory
-    /// for them is refused.
+    /// A task for each of `count` claimed approvals, whose numbers are those from `first` on; none
+    /// was polled yet. It fails where memory for them is refused.
     ///
-    /// Where the approvals stand is guessed, as in a pool that has just begun. A wrong guess costs a search and changes no answer.
+    /// Where the approvals stand is guessed, as in a pool that has just begun. A wrong guess costs
+    /// a search and changes no answer.
     pub fn for_approvals(alloc: Global, first: u64, count: u32) -> Result<Self, Memory>
         requires { first + count < 2 ^ 64 }
         ensures { IfOk result (λ tasks. AreFor first count tasks) }
@@ -100,8 +102,8 @@ impl<C, V, A> Tasks<C, V, A> {
         due
     }
 
-    /// Claims an approval at its home, and takes on its task. The place for the task is made first: where memory for it is refused, no
-    /// approval is claimed.
+    /// Claims an approval at its home, and takes on its task. The place for the task is made first:
+    /// where memory for it is refused, no approval is claimed.
     pub fn claim<H: Home<C>>(&mut self, at: Moment, home: &mut H) -> Result<ClaimAnswer, Memory>
         ensures claimed { IfOk result (λ answer. H.steps home.old at (Claims answer) home.new) }
         ensures task { IfOk result (λ answer. TakesTaskOn answer self.old self.new) }
@@ -117,10 +119,12 @@ impl<C, V, A> Tasks<C, V, A> {
         Ok(answer)
     }
 
-    /// Polls each task once, in their order, at a reading `at` of the clock. Those that end are gone.
+    /// Polls each task once, in their order, at a reading `at` of the clock. Those that end are
+    /// gone.
     ///
-    /// The error of a try that is made again goes to the sink, and so does that of a last try where `on_failure` says so; else the round
-    /// stops with that error, polls no further task, and keeps those.
+    /// The error of a try that is made again goes to the sink, and so does that of a last try where
+    /// `on_failure` says so; else the round stops with that error, polls no further task, and keeps
+    /// those.
     fn poll_until<E, X: Home<C> + Opener<C, E, Connecting = V, Acquiring = A>>(
         &mut self,
         at: Moment,
@@ -191,7 +195,8 @@ impl<C, V, A> Tasks<C, V, A> {
         }
     }
 
-    /// Lets each task go, in their order, so that the approval of each that has not ended is given back.
+    /// Lets each task go, in their order, so that the approval of each that has not ended is given
+    /// back.
     pub fn give_back<E, X: Home<C> + Opener<C, E, Connecting = V, Acquiring = A>>(
         self,
         at: Moment,
@@ -215,7 +220,8 @@ impl<C, V, A> Tasks<C, V, A> {
         self.give_back(at, pool);
     }
 
-    /// A round of polls at a reading of the clock, which stops at the first failure of a last try, and then lets all other tasks go.
+    /// A round of polls at a reading of the clock, which stops at the first failure of a last try,
+    /// and then lets all other tasks go.
     pub fn round<E, X: Home<C> + Opener<C, E, Connecting = V, Acquiring = A>>(
         mut self,
         pool: &mut X,
@@ -249,7 +255,8 @@ impl<C, V, A> Tasks<C, V, A> {
         queue.destroy_empty();
     }
 
-    /// A round of polls that goes on after each failure: each task is polled once, and each error goes to the sink.
+    /// A round of polls that goes on after each failure: each task is polled once, and each error
+    /// goes to the sink.
     #[tactic(auto, using(crate::proofs::Sweeps::polls_each))]
     pub fn poll_each<E, X: Home<C> + Opener<C, E, Connecting = V, Acquiring = A>>(
         &mut self,

@@ -11,8 +11,8 @@ const HALF_FIRST: u128 = 200_000_000;
 /// From this failure on the wait is half the timeout, whatever the timeout is.
 const LONGEST: u32 = 66;
 
-/// How long a task waits after its k-th failure, k from 1: twice as long as after the one before, from 400 milliseconds on, and at most
-/// half the timeout. As upstream.
+/// How long a task waits after its k-th failure, k from 1: twice as long as after the one before,
+/// from 400 milliseconds on, and at most half the timeout. As upstream.
 pub fn wait_after(k: u32, timeout: Duration) -> Duration
     ensures { as_nanos result ≡ wait (as_nanos timeout) k }
 {

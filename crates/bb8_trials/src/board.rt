@@ -140,7 +140,8 @@ pub struct Board {
     /// How many connections were made, and how many dropped.
     pub made: Number,
     pub closed: Number,
-    /// How often each of the first fifteen was dropped: a hexadecimal digit each, the last one for the first.
+    /// How often each of the first fifteen was dropped: a hexadecimal digit each, the last one for
+    /// the first.
     drops: Number,
     /// How many errors the sink has taken.
     pub errors: Number,

@@ -1,7 +1,8 @@
 //! A pool as a trial meets it: calls of which nothing is known.
 //!
-//! A test asserts what it finds, and proves nothing of it. So its body is generic over a handle whose calls have no clauses, and meets none
-//! of the contracts of a live pool. Those are met once, here.
+//! A test asserts what it finds, and proves nothing of it. So its body is generic over a handle
+//! whose calls have no clauses, and meets none of the contracts of a live pool. Those are met once,
+//! here.
 
 use bb8::building::Building;
 use bb8::dedicated::DedicatedFuture;

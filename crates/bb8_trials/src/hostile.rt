@@ -1,7 +1,9 @@
-//! Parts of a pool that change their answers at every call, and connections that are counted as they are made, held and dropped.
+//! Parts of a pool that change their answers at every call, and connections that are counted as
+//! they are made, held and dropped.
 //!
-//! All answers come from one `RandomSource` with a fixed seed, so a run in one thread is the same each time. A `Harness` makes the parts of a
-//! pool, and its `Gauges` tell then what the pool has made of them. Nothing here starts a thread or takes a lock.
+//! All answers come from one `RandomSource` with a fixed seed, so a run in one thread is the same
+//! each time. A `Harness` makes the parts of a pool, and its `Gauges` tell then what the pool has
+//! made of them. Nothing here starts a thread or takes a lock.
 
 mod clock;
 mod connection;

@@ -1,7 +1,8 @@
 //! What tests of live pools share, so that their bodies have neither a condition nor a proof.
 //!
-//! A test meets its pool by a handle (`LentHandle`, `OwnedHandle`, `Unbuilt`) whose calls have no clauses. A `Server` opens, checks and breaks
-//! connections as its `Board` says, and the parts of `hostile` change their answers at every call.
+//! A test meets its pool by a handle (`LentHandle`, `OwnedHandle`, `Unbuilt`) whose calls have no
+//! clauses. A `Server` opens, checks and breaks connections as its `Board` says, and the parts of
+//! `hostile` change their answers at every call.
 #![tactic(auto)]
 
 mod board;

@@ -18,6 +18,8 @@ pub record Counts : Type 0 where
   pub invalid : ℕ
   pub max_lifetime : ℕ
   pub idle_timeout : ℕ
+  pub retired : ℕ
+  pub detached : ℕ
 
 -- gets that were served or timed out
 abbrev pub completed : Counts → ℕ
@@ -47,6 +49,8 @@ counts_of s = record {
   invalid = s.connections_closed_invalid;
   max_lifetime = s.connections_closed_max_lifetime;
   idle_timeout = s.connections_closed_idle_timeout;
+  retired = s.connections_closed_retired;
+  detached = s.connections_detached;
 }
 
 -- a state as plain numbers
@@ -55,15 +59,15 @@ figures_of s = record { connections = s.connections; idle = s.idle_connections; 
 
 -- nothing happened yet
 abbrev pub no_counts : Counts
-no_counts = record { started = 0; direct = 0; waited = 0; timed_out = 0; cancelled = 0; wait_time = 0; created = 0; broken = 0; invalid = 0; max_lifetime = 0; idle_timeout = 0 }
+no_counts = record { started = 0; direct = 0; waited = 0; timed_out = 0; cancelled = 0; wait_time = 0; created = 0; broken = 0; invalid = 0; max_lifetime = 0; idle_timeout = 0; retired = 0; detached = 0 }
 
 -- the code that the toolchain asks of a model's value
 abbrev pub counts_code : Coded Counts
 counts_code =
     code_by
-    (ℕ × (ℕ × (ℕ × (ℕ × (ℕ × (ℕ × (ℕ × (ℕ × (ℕ × (ℕ × ℕ))))))))))
-    (coded× coded_ℕ (coded× coded_ℕ (coded× coded_ℕ (coded× coded_ℕ (coded× coded_ℕ (coded× coded_ℕ (coded× coded_ℕ (coded× coded_ℕ (coded× coded_ℕ (coded× coded_ℕ coded_ℕ))))))))))
-    (λ s. (s.started, (s.direct, (s.waited, (s.timed_out, (s.cancelled, (s.wait_time, (s.created, (s.broken, (s.invalid, (s.max_lifetime, s.idle_timeout)))))))))))
+    (ℕ × (ℕ × (ℕ × (ℕ × (ℕ × (ℕ × (ℕ × (ℕ × (ℕ × (ℕ × (ℕ × (ℕ × ℕ))))))))))))
+    (coded× coded_ℕ (coded× coded_ℕ (coded× coded_ℕ (coded× coded_ℕ (coded× coded_ℕ (coded× coded_ℕ (coded× coded_ℕ (coded× coded_ℕ (coded× coded_ℕ (coded× coded_ℕ (coded× coded_ℕ (coded× coded_ℕ coded_ℕ))))))))))))
+    (λ s. (s.started, (s.direct, (s.waited, (s.timed_out, (s.cancelled, (s.wait_time, (s.created, (s.broken, (s.invalid, (s.max_lifetime, (s.idle_timeout, (s.retired, s.detached)))))))))))))
     (λ p. record {
       started = p.0;
       direct = p.1.0;
@@ -77,6 +81,8 @@ counts_code =
       invalid = p.1.1.1.1.1.1.1.1.0;
       max_lifetime =
           p.1.1.1.1.1.1.1.1.1.0;
-      idle_timeout = p.1.1.1.1.1.1.1.1.1.1;
+      idle_timeout = p.1.1.1.1.1.1.1.1.1.1.0;
+      retired = p.1.1.1.1.1.1.1.1.1.1.1.0;
+      detached = p.1.1.1.1.1.1.1.1.1.1.1.1;
     })
     (λ _. refl)

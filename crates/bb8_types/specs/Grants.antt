@@ -9,7 +9,8 @@ use Rattle.bb8_types.specs.Bounds.{end_of_numbers}
 abbrev pub numbers_left : ℕ → ℕ
 numbers_left next = end_of_numbers - next
 
--- how many approvals a grant is to make: what is asked, up to the size, and none where no handle is alive
+-- how many approvals a grant is to make: what is asked, up to the size, and none where no handle is
+-- alive
 abbrev pub due : Settings → ℕ → ℕ → ℕ → ℕ
 due config handles taken asked = cond (eqb handles 0) 0 (min asked (config.max_size - taken))
 
@@ -17,7 +18,8 @@ due config handles taken asked = cond (eqb handles 0) 0 (min asked (config.max_s
 abbrev pub lacking : Settings → ℕ → ℕ
 lacking config have = unwrap_or config.min_idle 0 - have
 
--- Grant: what is due is granted or withheld. Withheld: only past the peak, or where no number is left.
+-- Grant: what is due is granted or withheld. Withheld: only past the peak, or where no number is
+-- left.
 pub record IsGranted (next taken peak due : ℕ) (g : Grant) : Type 0 where
   pub first : g.first ≡ next
   pub split : g.count + g.withheld ≡ due

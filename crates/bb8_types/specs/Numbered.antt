@@ -1,10 +1,12 @@
--- Lists whose elements have numbers in a row: the first element has the number n, the next one suc n.
+-- Lists whose elements have numbers in a row: the first element has the number n, the next one suc
+-- n.
 use Rattle.std.specs.Prelude.{ℕ, zero, suc, Bool, cond, eqb, List, [], ◌∷◌, ◌++◌, Option, Some, None, ◌+◌}
 use Rattle.std.specs.Option.{option_and_then}
 use Rattle.std.specs.Ordering.{nat_cmp}
 use Rattle.std.specs.FinMap.{FinMap, empty, insert}
 
--- What stands under a number, or None where it has ended; and the position of the event that last put it in line.
+-- What stands under a number, or None where it has ended; and the position of the event that last
+-- put it in line.
 pub record Numbered (S : Type 0) : Type 0 where
   pub standing : Option S
   pub position : ℕ

@@ -1,5 +1,5 @@
 -- Where a record or a get stands, what is read off its place, and which one of a line goes out.
-use Rattle.std.specs.Prelude.{ℕ, ◌-◌, ◌/◌, Bool, true, false, ◌&&◌, ◌||◌, not, cond, eqb, leb, List, length, slice_get, Option, Some, None}
+use Rattle.std.specs.Prelude.{ℕ, ◌-◌, ◌/◌, Bool, true, false, ◌&&◌, ◌||◌, not, cond, eqb, leb, ltb, List, length, slice_get, Option, Some, None}
 use Rattle.bb8_types.specs.declared.standing.Place.{Place}
 use Rattle.bb8_types.specs.declared.standing.Place.TheVariants.{Unclaimed, Claimed, Idle, Held, Guarded}
 use Rattle.bb8_types.specs.declared.standing.Standing.{Standing}
@@ -60,7 +60,8 @@ abbrev pub place_with : {C : Type 0} → Holder → Place C
 place_with Guard = Guarded
 place_with (Get g) = Held g
 
--- where a record stands that enters or ends: a claimed approval where one is opened, a connection that is out otherwise
+-- where a record stands that enters or ends: a claimed approval where one is opened, a connection
+-- that is out otherwise
 abbrev pub comes_from : {C : Type 0} → Bool → Place C → Bool
 comes_from opening p = cond opening (is_claimed p) (is_out p)
 
@@ -117,6 +118,16 @@ is_past (Some limit) span = leb limit span
 abbrev pub is_expired : Option ℕ → ℕ → ℕ → Bool
 is_expired lifetime now birth = is_past lifetime (now - birth)
 
+-- a connection that became idle at this moment is checked before it is served at that one: where
+-- the check is on, and so long has passed
+abbrev pub is_checked : Settings → ℕ → ℕ → Bool
+is_checked config now entered = config.test_on_check_out && leb config.test_after (now - entered)
+
+-- a connection whose check was cut off counts as broken if an idle one may be served unchecked: it
+-- would count as fresh
+abbrev pub is_doubtful : Settings → Bool → Bool
+is_doubtful config broken = broken || ltb 0 config.test_after
+
 -- the whole microseconds since a moment, where there is one
 abbrev pub micros_since : ℕ → Option ℕ → ℕ
 micros_since now None = 0
@@ -149,6 +160,11 @@ module _ {C : Type 0} where
   abbrev pub birth_in : Option (Standing C) → ℕ
   birth_in None = 0
   birth_in (Some s) = s.birth
+
+  -- when a record last became idle, or 0 where it has ended
+  abbrev pub entered_in : Option (Standing C) → ℕ
+  entered_in None = 0
+  entered_in (Some s) = s.entered
 
 -- a get in another place
 abbrev pub get_with_place : GetPlace → Getting → Getting

@@ -12,6 +12,7 @@ pub record Settings : Type 0 where
   pub max_size : ℕ
   pub min_idle : Option ℕ
   pub test_on_check_out : Bool
+  pub test_after : ℕ
   pub max_lifetime : Option ℕ
   pub idle_timeout : Option ℕ
   pub connection_timeout : ℕ
@@ -25,6 +26,7 @@ settings_of c = record {
   max_size = c.max_size;
   min_idle = c.min_idle;
   test_on_check_out = c.test_on_check_out;
+  test_after = as_nanos c.test_after;
   max_lifetime = option_map as_nanos c.max_lifetime;
   idle_timeout = option_map as_nanos c.idle_timeout;
   connection_timeout = as_nanos c.connection_timeout;
@@ -39,6 +41,7 @@ default_settings = record {
   max_size = 10;
   min_idle = None;
   test_on_check_out = true;
+  test_after = 0;
   max_lifetime = Some 1_800_000_000_000;
   idle_timeout = Some 600_000_000_000;
   connection_timeout = 30_000_000_000;
@@ -81,7 +84,7 @@ strategy_code = code_by ℕ coded_ℕ to back again
 
 -- a configuration as pairs within pairs
 abbrev Stored : Type 0
-Stored = ℕ × (Option ℕ × (Bool × (Option ℕ × (Option ℕ × (ℕ × (Bool × (ℕ × QueueStrategy)))))))
+Stored = ℕ × (Option ℕ × (Bool × (ℕ × (Option ℕ × (Option ℕ × (ℕ × (Bool × (ℕ × QueueStrategy))))))))
 
 -- the code of a configuration
 abbrev pub settings_code : Coded Settings
@@ -89,19 +92,20 @@ settings_code =
     code_by
     Stored
     (coded× coded_ℕ (coded× (coded_option coded_ℕ)
-    (coded× coded_bool (coded× (coded_option coded_ℕ)
-    (coded× (coded_option coded_ℕ) (coded× coded_ℕ (coded× coded_bool (coded× coded_ℕ strategy_code))))))))
-    (λ s. (s.max_size, (s.min_idle, (s.test_on_check_out, (s.max_lifetime, (s.idle_timeout, (s.connection_timeout, (s.retry_connection, (s.reaper_rate, s.queue_strategy)))))))))
+    (coded× coded_bool (coded× coded_ℕ (coded× (coded_option coded_ℕ)
+    (coded× (coded_option coded_ℕ) (coded× coded_ℕ (coded× coded_bool (coded× coded_ℕ strategy_code)))))))))
+    (λ s. (s.max_size, (s.min_idle, (s.test_on_check_out, (s.test_after, (s.max_lifetime, (s.idle_timeout, (s.connection_timeout, (s.retry_connection, (s.reaper_rate, s.queue_strategy))))))))))
     (λ p. record {
       max_size = p.0;
       min_idle = p.1.0;
       test_on_check_out = p.1.1.0;
-      max_lifetime = p.1.1.1.0;
-      idle_timeout = p.1.1.1.1.0;
-      connection_timeout = p.1.1.1.1.1.0;
-      retry_connection = p.1.1.1.1.1.1.0;
-      reaper_rate = p.1.1.1.1.1.1.1.0;
+      test_after = p.1.1.1.0;
+      max_lifetime = p.1.1.1.1.0;
+      idle_timeout = p.1.1.1.1.1.0;
+      connection_timeout = p.1.1.1.1.1.1.0;
+      retry_connection = p.1.1.1.1.1.1.1.0;
+      reaper_rate = p.1.1.1.1.1.1.1.1.0;
       queue_strategy =
-          p.1.1.1.1.1.1.1.1;
+          p.1.1.1.1.1.1.1.1.1;
     })
     (λ _. refl)

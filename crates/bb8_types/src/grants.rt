@@ -1,7 +1,8 @@
 //! What a step grants.
 ghost use Rattle.bb8_types.specs.Grants.{IsNoGrant};
 
-/// Approvals that a step granted: those numbered `first` to `first + count - 1`. It stands for upstream's list of approvals.
+/// Approvals that a step granted: those numbered `first` to `first + count - 1`. It stands for
+/// upstream's list of approvals.
 #[derive(Clone, Copy, Debug, PartialEq, Eq)]
 pub struct Grant {
     /// The number of the first one; the next number that is free where `count` is 0.

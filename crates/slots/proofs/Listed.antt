@@ -99,7 +99,8 @@ module _ {J O G : Type 0} where
         rw this at rest',
       )
 
-  -- where the outcome of an id was asked for, the ids stay ids, as many run, and a job that was taken is gone
+  -- where the outcome of an id was asked for, the ids stay ids, as many run, and a job that was
+  -- taken is gone
   pub taken-ids : (id next : ℕ) (o : Option (Outcome O)) (es : List (JobEntry J O G)) → AreIds 0 next (ids es) → AreIds 0 next (ids (left_after o id es))
   taken-ids id next None es h = h
   taken-ids id next (Some outcome) es h = kept id 0 next es h

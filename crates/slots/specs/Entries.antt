@@ -74,7 +74,8 @@ module _ {J O G : Type 0} where
   without id [] = []
   without id (e ∷ es) = cond (e.id == id) es (e ∷ without id es)
 
-  -- the jobs that are left where the outcome of an id was asked for: without that one, where it was told
+  -- the jobs that are left where the outcome of an id was asked for: without that one, where it was
+  -- told
   abbrev pub left_after : Option (Outcome O) → ℕ → List (JobEntry J O G) → List (JobEntry J O G)
   left_after None id es = es
   left_after (Some outcome) id es = without id es

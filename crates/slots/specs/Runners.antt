@@ -1,4 +1,5 @@
--- What callers see of a runner: its jobs, its next id, its pool and its driver; and what its calls do to them.
+-- What callers see of a runner: its jobs, its next id, its pool and its driver; and what its calls
+-- do to them.
 use Rattle.std.specs.Prelude.{◌≡◌, ℕ, List, ⊤}
 use Rattle.std.specs.Arc.{arc_value}
 use Rattle.std.specs.contracts.prelude.InfallibleDebug.TheImpl as infallible
@@ -63,7 +64,8 @@ module _ {J S Z K R L O A : Type 0} {j : JobOf J O} {s : SinkOf S Infallible} {z
   abbrev pub driver_of : Runner J S Z K R L O A j s z k l → SlotDriver S Z K R L A s z k l
   driver_of runner = runner.driver
 
-  -- a runner is let go: the get of each job that waits is cancelled, each of its guards gives its connection back, and its driver is let go
+  -- a runner is let go: the get of each job that waits is cancelled, each of its guards gives its
+  -- connection back, and its driver is let go
   abbrev pub LetsRunnerGo : Runner J S Z K R L O A j s z k l → Type 0
   LetsRunnerGo runner =
       EachGet CancelsGet (jobs_in runner) × ReturnsEach runner.guards × OwnDropsTurning (arc_value runner.driver.shared) runner.driver.turning
@@ -72,7 +74,8 @@ module _ {J S Z K R L O A : Type 0} {j : JobOf J O} {s : SinkOf S Infallible} {z
   abbrev pub most_running : Runner J S Z K R L O A j s z k l → ℕ
   most_running runner = (settings_in (pool_of runner)).max_size
 
-  -- a job is taken on: it stands behind the others, under the next id, and waits by a get of the pool that was not polled
+  -- a job is taken on: it stands behind the others, under the next id, and waits by a get of the
+  -- pool that was not polled
   abbrev pub TakesJobOn : Runner J S Z K R L O A j s z k l → J → Runner J S Z K R L O A j s z k l → Type 0
   TakesJobOn runner job runner' =
       AddsJob (λ get. (stage_of get ≡ Fresh) × IsOf get (pool_of runner)) (next_id runner) job (jobs_in runner) (jobs_in runner')

@@ -18,8 +18,8 @@ module _ {J O G : Type 0} (returned : Type 0) where
   AfterJob (Ready out) job place ended = (place ≡ Ended (Done out)) × (ended ≡ 1) × returned
 
 module _ {J O G D : Type 0} (back : D → Type 0) where
-  -- After a poll of a job's get: it waits on; or it runs from now on, or has ended as there was no memory to keep its guard, which went back; or
-  -- it has ended with the get's error.
+  -- After a poll of a job's get: it waits on; or it runs from now on, or has ended as there was no
+  -- memory to keep its guard, which went back; or it has ended with the get's error.
   abbrev pub AfterGet : Poll (Result D (RunError Infallible)) → J → G → JobPlace J O G → ℕ → Type 0
   AfterGet Pending job get place ended = (place ≡ Waiting job get) × (ended ≡ 0)
   AfterGet (Ready (Ok guard)) job get place ended =
@@ -38,13 +38,15 @@ module _ {J O G D : Type 0} (polls_get : G → Poll (Result D (RunError Infallib
 
 module _ {J O G D : Type 0} (polls : J → Moment → Poll O → J → Type 0) (polls_get : G → Poll (Result D (RunError Infallible)) → G → Type 0)
     (back : D → Type 0) (now : Moment) where
-  -- what a turn makes of a job that stands so, and how many jobs end by it; one that has ended is left alone
+  -- what a turn makes of a job that stands so, and how many jobs end by it; one that has ended is
+  -- left alone
   abbrev pub JobSteps : JobPlace J O G → JobPlace J O G → ℕ → Type 0
   JobSteps (Waiting job get) place ended = StepsGet polls_get back job get place ended
   JobSteps (Running job) place ended = StepsJob polls ((guard : D) × back guard) now job place ended
   JobSteps (Ended outcome) place ended = (place ≡ Ended outcome) × (ended ≡ 0)
 
-  -- what a turn makes of jobs: one step of each, under its id and in their order, and how many jobs end
+  -- what a turn makes of jobs: one step of each, under its id and in their order, and how many jobs
+  -- end
   abbrev pub StepsEach : List (JobEntry J O G) → List (JobEntry J O G) → ℕ → Type 0
   StepsEach [] es' ended = (es' ≡ []) × (ended ≡ 0)
   StepsEach (e ∷ es) es' ended =

@@ -12,12 +12,12 @@ pub trait Job: Drop {
     /// What the job comes to.
     type Out: Drop;
 
-    // Holds of a job, the moment of a poll of it, each answer that the poll may give, and the job then. The implementer's choice; one that
-    // is left out allows everything.
+    // Holds of a job, the moment of a poll of it, each answer that the poll may give, and the job
+    // then. The implementer's choice; one that is left out allows everything.
     ghost polls: { Self → MomentOf → PollOf Self.Out → Self → Type 0 } = { λ _ _ _ _. ⊤ };
 
-    /// Goes on with the job, at the moment `now`, in nanoseconds of the pool's clock: what it comes to once it is done, else pending. It is
-    /// not polled again once it was ready.
+    /// Goes on with the job, at the moment `now`, in nanoseconds of the pool's clock: what it comes
+    /// to once it is done, else pending. It is not polled again once it was ready.
     fn poll(&mut self, now: Moment) -> Poll<Self::Out>
         ensures { polls self.old now result self.new };
 }
@@ -27,8 +27,9 @@ pub trait Job: Drop {
 pub enum Outcome<O> {
     /// It came to this.
     Done(O),
-    /// It never ran, as its get was refused so: `TimedOut` where no connection came in time; `Memory` where memory was refused, to the get
-    /// or to the keeping of its guard; `Exhausted` where the pool had no number left for the get.
+    /// It never ran, as its get was refused so: `TimedOut` where no connection came in time;
+    /// `Memory` where memory was refused, to the get or to the keeping of its guard; `Exhausted`
+    /// where the pool had no number left for the get.
     Refused(RunError<Infallible>),
 }
 

@@ -1,8 +1,11 @@
-//! A runner of jobs over a pool: each job holds a guard of the pool while it runs, so no more run at a time than the pool's `max_size`.
+//! A runner of jobs over a pool: each job holds a guard of the pool while it runs, so no more run
+//! at a time than the pool's `max_size`.
 //!
-//! It stands on the public contract of `bb8` alone, and shows how a bounded executor, a queue of jobs or a pool of workers is proved on it. The
-//! connections are slots, in which nothing is; a guard is the leave to run. Jobs are submitted (`RunnerCalls::submit`), go on at each turn
-//! (`turn`), and what they come to is taken by their ids (`take`). The behaviour is our own choice, since upstream has no such thing.
+//! It stands on the public contract of `bb8` alone, and shows how a bounded executor, a queue of
+//! jobs or a pool of workers is proved on it. The connections are slots, in which nothing is; a
+//! guard is the leave to run. Jobs are submitted (`RunnerCalls::submit`), go on at each turn
+//! (`turn`), and what they come to is taken by their ids (`take`). The behaviour is our own choice,
+//! since upstream has no such thing.
 //!
 //! This program is whole. In `crates.txt` it stands on `bb8`, `futures` and `slots`:
 //!
@@ -45,7 +48,10 @@
 //! type SlotPool<R, L> = Pool<SlotManager, NopErrorSink, NopCustomizer, SetClock, R, L>;
 //!
 //! /// The sum of what ten jobs come to, of which two run at a time.
-//! fn run<R: Wait + RandomSource + AllocGlobal + Copy + Send + Sync + Drop + 'static, L: PoolParts>(
+//! fn run<
+//!     R: Wait + RandomSource + AllocGlobal + Copy + Send + Sync + Drop + 'static,
+//!     L: PoolParts,
+//! >(
 //!     rt: R,
 //!     blank: Blank,
 //! ) -> Result<u64, Memory>
@@ -87,8 +93,9 @@
 //! }
 //! ```
 //!
-//! It prints 120. One proof file of its own, `proofs/main/Invariants.antt`, says the name and the number of the pool's parts and its settings
-//! (`ghosts-run-L-Ledger` and `ghosts-run-L-Parts`), as in `bb8_live_bench`.
+//! It prints 120. One proof file of its own, `proofs/main/Invariants.antt`, says the name and the
+//! number of the pool's parts and its settings (`ghosts-run-L-Ledger` and `ghosts-run-L-Parts`), as
+//! in `bb8_live_bench`.
 #![tactic(auto)]
 
 mod entries;

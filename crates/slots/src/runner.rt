@@ -21,10 +21,12 @@ use std::collections::VecDeque;
 use std::convert::Infallible;
 use std::sync::Wait;
 
-/// Runs jobs, each while it holds a connection of the pool, so that no more run at a time than the pool's `max_size`.
+/// Runs jobs, each while it holds a connection of the pool, so that no more run at a time than the
+/// pool's `max_size`.
 ///
-/// Jobs are submitted, go on at each turn, and their outcomes are taken by their ids. When a runner is dropped, the gets of jobs that wait
-/// are cancelled and the guards of those that run are given back, for which it may wait for the pool's lock.
+/// Jobs are submitted, go on at each turn, and their outcomes are taken by their ids. When a runner
+/// is dropped, the gets of jobs that wait are cancelled and the guards of those that run are given
+/// back, for which it may wait for the pool's lock.
 pub struct Runner<
     'a,
     J: Job,
@@ -103,16 +105,18 @@ pub trait RunnerCalls: TurnParts {
     /// How a job ends.
     type Outcome;
 
-    /// Takes a job on, and answers its id: ids count from 0. Where memory for it is refused, or each id below the greatest u64 was given, the
-    /// job comes back and nothing changes.
+    /// Takes a job on, and answers its id: ids count from 0. Where memory for it is refused, or
+    /// each id below the greatest u64 was given, the job comes back and nothing changes.
     fn submit(&mut self, job: Self::Job) -> Result<u64, Self::Job>;
 
-    /// One turn at a moment, in nanoseconds of the pool's clock; it may wait for the pool's lock. How many jobs ended.
+    /// One turn at a moment, in nanoseconds of the pool's clock; it may wait for the pool's lock.
+    /// How many jobs ended.
     ///
-    /// The pool's driver makes a turn first. Then each job that has not ended has one step, in the order of the ids. The get of a job that
-    /// waits is polled: where it is served the job runs from the next turn on, where it fails the job has ended with its error, and where there
-    /// is no memory to keep the guard, that is dropped and the job has ended with `Memory`. A job that runs is polled once: where it is ready
-    /// it has ended, and a guard is dropped at once.
+    /// The pool's driver makes a turn first. Then each job that has not ended has one step, in the
+    /// order of the ids. The get of a job that waits is polled: where it is served the job runs
+    /// from the next turn on, where it fails the job has ended with its error, and where there is
+    /// no memory to keep the guard, that is dropped and the job has ended with `Memory`. A job that
+    /// runs is polled once: where it is ready it has ended, and a guard is dropped at once.
     final fn turn(&mut self, moment: Moment, cx: &mut Context<'_>) -> u64
         ensures chain { (between : Self) × Self.turns self.old moment between
             × Self.steps between moment result self.new }
@@ -128,8 +132,8 @@ pub trait RunnerCalls: TurnParts {
     /// How many jobs run.
     fn running(&self) -> u64;
 
-    /// How the job of an id has ended, once: the job is then forgotten. None where it has not ended, no such id was given, or its outcome was
-    /// taken.
+    /// How the job of an id has ended, once: the job is then forgotten. None where it has not
+    /// ended, no such id was given, or its outcome was taken.
     fn take(&mut self, id: u64) -> Option<Self::Outcome>;
 }
 
@@ -145,7 +149,8 @@ impl<
     ghost use Rattle.bb8.specs.Drivers.{IsDriverOf};
     ghost use Rattle.slots.specs.Runners.{driver_of, jobs_in, next_id, pool_of};
 
-    /// A runner of the pool that has no job yet, with a driver of the pool. It fails only where `Driver::new` does.
+    /// A runner of the pool that has no job yet, with a driver of the pool. It fails only where
+    /// `Driver::new` does.
     pub fn new(alloc: Global, pool: &'a Pool<SlotManager, S, Z, K, R, L>) -> Result<Self, Memory>
         ensures pool { IfOk result (λ runner. pool_of runner ≡ pool.now) }
         ensures driver { IfOk result (λ runner. IsDriverOf (driver_of runner) pool.now) }

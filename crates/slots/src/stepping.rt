@@ -33,7 +33,8 @@ pub(crate) struct Stepped<J, O, G> {
     pub(crate) ended: u64,
 }
 
-/// The steps of a job beside the guards of all that run, as methods of an impl, so that methods of others can call them.
+/// The steps of a job beside the guards of all that run, as methods of an impl, so that methods of
+/// others can call them.
 pub(crate) trait StepsOne<J, O, G> {
     /// Polls a job that runs, once. Where it is ready, its guard is dropped at once.
     fn step_job(&mut self, job: J, now: Moment) -> Stepped<J, O, G>;

@@ -18,7 +18,8 @@ use std::collections::VecDeque;
 use std::convert::Infallible;
 use std::sync::Wait;
 
-/// The steps of all jobs beside the guards of those that run, as methods of an impl, so that methods of others can call them.
+/// The steps of all jobs beside the guards of those that run, as methods of an impl, so that
+/// methods of others can call them.
 pub(crate) trait StepsAll<Q> {
     /// One step of the first job, which goes to the back. How many jobs ended.
     fn step_first(&mut self, queue: &mut Q, now: Moment, cx: &mut Context<'_>) -> u64;

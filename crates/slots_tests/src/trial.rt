@@ -1,4 +1,5 @@
-//! The one place where a trial's pool of slots and its runner are built, and the pool's parts are laid out.
+//! The one place where a trial's pool of slots and its runner are built, and the pool's parts are
+//! laid out.
 ghost use Rattle.std.specs.Prelude.{◌≡◌, ◌<◌, true};
 ghost use Rattle.bb8.specs.Parts.{IsBlankOf};
 ghost use Rattle.bb8.specs.Settings.{is_lawful};
@@ -77,7 +78,8 @@ impl<R: Drop, X: CountRunner> Bench<R, X> {
         task.enter(|cx| runner.turn(Moment(moment), cx))
     }
 
-    /// Submits a job that is ready at its poll of this number, and tells whether its id is this one.
+    /// Submits a job that is ready at its poll of this number, and tells whether its id is this
+    /// one.
     pub fn submits(&mut self, ready_at: u64, id: u64) -> bool {
         self.runner.submit(Count::to(ready_at)).ok() == Some(id)
     }
@@ -114,7 +116,8 @@ fn run_on<R: Runtime, L: PoolParts, T: RunnerTrial<R> + Drop>(
     Ok(())
 }
 
-/// Runs a trial on a pool of these settings and a runner of it, at the moment 0. None where the settings are not lawful, or memory was refused.
+/// Runs a trial on a pool of these settings and a runner of it, at the moment 0. None where the
+/// settings are not lawful, or memory was refused.
 pub fn try_runner<R: Runtime, T: RunnerTrial<R> + Drop>(
     rt: R,
     builder: SlotBuilder,

@@ -1,4 +1,5 @@
-//! Plain data of a pool: configuration, moments, figures, errors and traits, and the places of its records and gets.
+//! Plain data of a pool: configuration, moments, figures, errors and traits, and the places of its
+//! records and gets.
 
 pub mod api;
 pub mod bounds;

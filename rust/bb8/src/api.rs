@@ -12,7 +12,7 @@ use std::ops::{Deref, DerefMut};
 /// A handle to a pool. Its clones are handles to the same pool.
 ///
 /// Once the last handle and the last guard of [`Pool::get_owned`] are gone, the idle connections
-/// are closed.
+/// are closed. [`Pool::close`] closes the pool earlier.
 pub struct Pool<M: ManageConnection> {
     pub(crate) inner: PoolInner<M>,
 }
@@ -51,8 +51,8 @@ impl<M: ManageConnection> Pool<M> {
     ///
     /// # Errors
     ///
-    /// Each error returns the connection: it is broken, the pool is full, or there is no memory or
-    /// no number for it.
+    /// Each error returns the connection: it is broken, the pool is full or closed, or there is no
+    /// memory or no number for it.
     ///
     /// # Examples
     ///
@@ -60,7 +60,10 @@ impl<M: ManageConnection> Pool<M> {
     /// use bb8::{AddError, ManageConnection, Pool};
     ///
     /// /// Returns the connection if the pool has no room for it.
-    /// fn hand_in<M: ManageConnection>(pool: &Pool<M>, conn: M::Connection) -> Option<M::Connection> {
+    /// fn hand_in<M: ManageConnection>(
+    ///     pool: &Pool<M>,
+    ///     conn: M::Connection,
+    /// ) -> Option<M::Connection> {
     ///     match pool.add(conn) {
     ///         Ok(()) | Err(AddError::Broken(_)) => None,
     ///         Err(AddError::NoCapacity(conn) | AddError::Withheld(conn)) => Some(conn),
@@ -69,6 +72,130 @@ impl<M: ManageConnection> Pool<M> {
     /// ```
     pub fn add(&self, conn: M::Connection) -> Result<(), AddError<M::Connection>> {
         self.inner.add(conn)
+    }
+
+    /// Retires all connections that exist, as if all were past `max_lifetime`: idle ones are closed
+    /// now, checked-out ones when they are returned. An attempt in progress still brings its
+    /// connection, which is checked out once at most. Those that `min_idle` requires are opened
+    /// anew.
+    ///
+    /// It is for changes that only new connections see: other credentials, a restored database,
+    /// another server behind the same name. Requests in progress are not disturbed. Connections
+    /// that no get waits for are opened when they are needed.
+    ///
+    /// If memory to list the idle connections is refused, nothing changes. In a closed pool it does
+    /// nothing.
+    ///
+    /// # Panics
+    ///
+    /// If the destructor of an idle connection panics; all are closed then, too.
+    ///
+    /// # Examples
+    ///
+    /// ```
+    /// use bb8::Pool;
+    /// # include!(concat!(env!("CARGO_MANIFEST_DIR"), "/tests/common/numbers.rs"));
+    /// # #[tokio::main]
+    /// # async fn main() {
+    ///
+    /// let pool = Pool::builder().build(Numbers::default()).await.unwrap();
+    /// let conn = pool.get().await.unwrap();
+    /// pool.retire();
+    /// assert_eq!(*conn, 0);
+    /// drop(conn); // it is closed
+    /// assert_eq!(*pool.get().await.unwrap(), 1);
+    /// assert_eq!(pool.state().statistics.connections_closed_retired, 1);
+    /// # }
+    /// ```
+    pub fn retire(&self) {
+        self.inner.retire();
+    }
+
+    /// Closes the pool for all its handles, and resolves once all its connections are dropped.
+    ///
+    /// When it is first polled, waiting gets return [`RunError::Closed`], as every later get does.
+    /// Idle connections are dropped, and attempts in progress end. Checked-out connections are not
+    /// disturbed, and are dropped when they are returned. It waits for them, so call it without a
+    /// guard in the same task, or limit it by a timeout. If it is dropped, the pool stays closed.
+    ///
+    /// In the statistics, waiting gets that it ends count in `get_cancelled`; later ones count
+    /// nowhere.
+    ///
+    /// # Panics
+    ///
+    /// If the destructor of an idle connection panics; the pool is closed then, too.
+    ///
+    /// # Examples
+    ///
+    /// ```
+    /// use bb8::{Pool, RunError};
+    /// # include!(concat!(env!("CARGO_MANIFEST_DIR"), "/tests/common/numbers.rs"));
+    /// # #[tokio::main]
+    /// # async fn main() {
+    ///
+    /// let pool = Pool::builder().min_idle(1).build(Numbers::default()).await.unwrap();
+    /// let conn = pool.get_owned().await.unwrap();
+    /// let request = tokio::spawn(async move { *conn });
+    /// pool.close().await; // it waits for the request
+    /// assert_eq!(pool.state().connections, 0);
+    /// assert_eq!(pool.get().await.unwrap_err(), RunError::Closed);
+    /// assert_eq!(request.await.unwrap(), 0);
+    /// # }
+    /// ```
+    ///
+    /// [`RunError::Closed`]: crate::RunError::Closed
+    pub async fn close(&self) {
+        self.inner.close().await;
+    }
+
+    /// Closes the pool as [`Pool::close`] does, but does not wait for its connections. It may be
+    /// called outside of a runtime.
+    ///
+    /// If memory to list the idle connections is refused, the pool stays open. Exception:
+    /// [`Pool::close`] then tries again after a millisecond.
+    ///
+    /// # Panics
+    ///
+    /// As [`Pool::close`].
+    ///
+    /// # Examples
+    ///
+    /// ```
+    /// use bb8::Pool;
+    /// # include!(concat!(env!("CARGO_MANIFEST_DIR"), "/tests/common/numbers.rs"));
+    /// # #[tokio::main]
+    /// # async fn main() {
+    ///
+    /// let pool = Pool::builder().build(Numbers::default()).await.unwrap();
+    /// let conn = pool.get().await.unwrap();
+    /// pool.close_now();
+    /// assert_eq!(pool.state().connections, 1);
+    /// drop(conn);
+    /// assert_eq!(pool.state().connections, 0);
+    /// # }
+    /// ```
+    pub fn close_now(&self) {
+        self.inner.shared().close();
+    }
+
+    /// Returns whether the pool was closed by [`Pool::close`] or [`Pool::close_now`].
+    ///
+    /// # Examples
+    ///
+    /// ```
+    /// use bb8::Pool;
+    /// # include!(concat!(env!("CARGO_MANIFEST_DIR"), "/tests/common/numbers.rs"));
+    /// # #[tokio::main]
+    /// # async fn main() {
+    ///
+    /// let pool = Pool::builder().build(Numbers::default()).await.unwrap();
+    /// assert!(!pool.is_closed());
+    /// pool.close().await;
+    /// assert!(pool.clone().is_closed());
+    /// # }
+    /// ```
+    pub fn is_closed(&self) -> bool {
+        self.inner.shared().is_closed()
     }
 
     /// Returns how many connections there are, and the statistics.
@@ -122,14 +249,51 @@ impl<'a, M: ManageConnection> PooledConnection<'a, M> {
         }
     }
 
+    /// Takes the connection out of the pool for good, and returns it. Its slot is free, so the pool
+    /// may open another one in its place.
+    ///
+    /// The pool forgets the connection: it counts in `connections_detached`, not as closed, no
+    /// limit on size or age applies to it, and [`on_release`] is not called. This is an associated
+    /// function, called as `PooledConnection::detach(conn)`, so that it hides no method of the
+    /// connection.
+    ///
+    /// # Examples
+    ///
+    /// A connection that becomes a subscription is used until its end:
+    ///
+    /// ```
+    /// use bb8::{Pool, PooledConnection};
+    /// # include!(concat!(env!("CARGO_MANIFEST_DIR"), "/tests/common/numbers.rs"));
+    /// # #[tokio::main]
+    /// # async fn main() {
+    ///
+    /// let pool = Pool::builder().max_size(1).build(Numbers::default()).await.unwrap();
+    /// let conn = pool.get().await.unwrap();
+    /// let conn: u32 = PooledConnection::detach(conn);
+    /// assert_eq!((conn, pool.state().connections), (0, 0));
+    /// assert_eq!(*pool.get().await.unwrap(), 1);
+    /// # }
+    /// ```
+    ///
+    /// [`on_release`]: crate::CustomizeConnection::on_release
+    pub fn detach(mut this: Self) -> M::Connection {
+        let checkout = this.checkout.take().expect(HELD);
+        this.pool().shared().detach(checkout)
+    }
+
+    /// The pool of the guard.
+    #[inline]
+    fn pool(&self) -> &PoolInner<M> {
+        match &self.pool {
+            PoolRef::Borrowed(pool) => pool,
+            PoolRef::Owned(pool) => pool,
+        }
+    }
+
     /// Makes the guard a handle to its pool, too.
     pub(crate) fn into_owned(mut self) -> PooledConnection<'static, M> {
-        let pool = match &self.pool {
-            PoolRef::Borrowed(pool) => PoolInner::clone(pool),
-            PoolRef::Owned(pool) => pool.clone(),
-        };
         PooledConnection {
-            pool: PoolRef::Owned(pool),
+            pool: PoolRef::Owned(self.pool().clone()),
             checkout: self.checkout.take(),
         }
     }
@@ -162,11 +326,7 @@ impl<M: ManageConnection> Drop for PooledConnection<'_, M> {
     #[inline]
     fn drop(&mut self) {
         if let Some(checkout) = self.checkout.take() {
-            let pool = match &self.pool {
-                PoolRef::Borrowed(pool) => pool,
-                PoolRef::Owned(pool) => pool,
-            };
-            pool.put_back(checkout);
+            self.pool().put_back(checkout);
         }
     }
 }

@@ -13,6 +13,8 @@ use tokio::time::Instant;
 /// A connection, and for events when it was opened.
 struct Stored<C> {
     conn: C,
+    /// The moment from which on it is too old, if connections have ends of their own.
+    end: u64,
     #[cfg(feature = "tracing")]
     opened: Instant,
 }
@@ -36,6 +38,7 @@ impl<C> Reserved<C> {
     pub(crate) fn fill(mut self, conn: C) -> Boxed<C> {
         self.0.push(Stored {
             conn,
+            end: u64::MAX,
             #[cfg(feature = "tracing")]
             opened: Instant::now(),
         });
@@ -54,6 +57,15 @@ impl<C> Boxed<C> {
     pub(crate) fn into_inner(self) -> C {
         let [stored] = *self.0;
         stored.conn
+    }
+
+    /// Returns the moment from which on it is too old.
+    pub(crate) fn end(&self) -> u64 {
+        self.0[0].end
+    }
+
+    pub(crate) fn set_end(&mut self, end: u64) {
+        self.0[0].end = end;
     }
 
     /// Returns how long ago it was opened.

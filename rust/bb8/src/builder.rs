@@ -2,7 +2,10 @@
 
 use crate::api::Pool;
 use crate::managers::{CustomizeConnection, ErrorSink, ManageConnection, NopErrorSink};
+use crate::moments::Checks;
 use crate::pool::PoolInner;
+use std::collections::hash_map::RandomState;
+use std::hash::{BuildHasher, Hasher};
 use std::marker::PhantomData;
 use std::time::Duration;
 
@@ -34,6 +37,10 @@ pub struct Config {
     pub connect_timeout: Option<Duration>,
     /// How long a check may take.
     pub test_timeout: Option<Duration>,
+    /// For how long a connection has to be idle until it is checked.
+    pub test_on_check_out_after: Duration,
+    /// By which share of `max_lifetime`, at most, the life of each connection is shortened.
+    pub max_lifetime_jitter: f64,
 }
 
 impl<M: ManageConnection> From<&Builder<M>> for Config {
@@ -51,6 +58,8 @@ impl<M: ManageConnection> From<&Builder<M>> for Config {
             fair_after: builder.fair_after,
             connect_timeout: builder.connect_timeout,
             test_timeout: builder.test_timeout,
+            test_on_check_out_after: builder.test_on_check_out_after,
+            max_lifetime_jitter: builder.max_lifetime_jitter,
         }
     }
 }
@@ -71,7 +80,9 @@ pub struct Builder<M: ManageConnection> {
     pub(crate) max_size: u32,
     pub(crate) min_idle: Option<u32>,
     pub(crate) test_on_check_out: bool,
+    pub(crate) test_on_check_out_after: Duration,
     pub(crate) max_lifetime: Option<Duration>,
+    pub(crate) max_lifetime_jitter: f64,
     pub(crate) idle_timeout: Option<Duration>,
     pub(crate) connection_timeout: Duration,
     pub(crate) connect_timeout: Option<Duration>,
@@ -95,7 +106,9 @@ impl<M: ManageConnection> Default for Builder<M> {
             max_size: 10,
             min_idle: None,
             test_on_check_out: true,
+            test_on_check_out_after: Duration::ZERO,
             max_lifetime: Some(30 * MINUTE),
+            max_lifetime_jitter: 0.0,
             idle_timeout: Some(10 * MINUTE),
             connection_timeout: MINUTE / 2,
             connect_timeout: None,
@@ -118,6 +131,12 @@ impl<M: ManageConnection> Default for Builder<M> {
 fn assert_above_zero(limit: Option<Duration>, name: &str) {
     let is_zero = limit == Some(Duration::ZERO);
     assert!(!is_zero, "{name} must be greater than zero!");
+}
+
+/// Returns a random number from 0 to 1: the standard library seeds its hashers at random.
+fn random() -> f64 {
+    let bits = RandomState::new().build_hasher().finish();
+    u32::try_from(bits >> 32).map_or(0.0, f64::from) / f64::from(u32::MAX)
 }
 
 impl<M: ManageConnection> Builder<M> {
@@ -155,8 +174,45 @@ impl<M: ManageConnection> Builder<M> {
         self
     }
 
+    /// Sets for how long a connection has to be idle until it is checked. By default this is zero,
+    /// so each connection is checked. One that was opened or returned less than that long ago is
+    /// checked out unchecked, which saves a request to the server in most gets of a busy pool. A
+    /// quarter of a second or a second is a good choice. If the check is off, it does nothing.
+    ///
+    /// So a connection may be dead that was well so shortly before. Each get and each return reads
+    /// the clock.
+    ///
+    /// Exception: with [`Builder::max_lifetime_jitter`] it does nothing, and each connection is
+    /// checked, so that none is checked out past its own end.
+    ///
+    /// # Examples
+    ///
+    /// ```
+    /// use bb8::Pool;
+    /// use std::time::Duration;
+    /// # include!(concat!(env!("CARGO_MANIFEST_DIR"), "/tests/common/numbers.rs"));
+    /// # #[tokio::main]
+    /// # async fn main() {
+    ///
+    /// let pool = Pool::builder()
+    ///     .test_on_check_out_after(Duration::from_millis(250))
+    ///     .build(Numbers::default())
+    ///     .await
+    ///     .unwrap();
+    /// drop(pool.get().await.unwrap());
+    /// // The connection was returned just now, so it is not checked.
+    /// assert!(pool.get().await.is_ok());
+    /// # }
+    /// ```
+    #[must_use]
+    pub fn test_on_check_out_after(mut self, idle: Duration) -> Self {
+        self.test_on_check_out_after = idle;
+        self
+    }
+
     /// Sets the age at which a connection is closed. The default is 30 minutes. An idle connection
-    /// is closed by the next reap, a checked-out one when it is returned.
+    /// is closed by the next reap, a checked-out one when it is returned. See also
+    /// [`Builder::max_lifetime_jitter`].
     ///
     /// # Panics
     ///
@@ -166,6 +222,89 @@ impl<M: ManageConnection> Builder<M> {
         self.max_lifetime = max_lifetime.into();
         assert_above_zero(self.max_lifetime, "max_lifetime");
         self
+    }
+
+    /// Sets by which share of `max_lifetime`, at most, the life of each connection is shortened at
+    /// random: 0 by default. With 0.2 and the default of 30 minutes connections live for 24 to 30
+    /// minutes, so those that were opened together are not all replaced together. Without a
+    /// `max_lifetime` it does nothing.
+    ///
+    /// A connection past its own end is closed when its guard is dropped, and counts in
+    /// `connections_closed_broken`. An idle one is closed when a get takes it out, as if its check
+    /// had failed: it counts in `connections_closed_invalid`, and the get goes on with the next.
+    ///
+    /// Exception: the reaper compares with `max_lifetime` alone. So connections that no get takes
+    /// out are closed at that age, all in one reap if they were opened together. With jitter each
+    /// get and each return read the clock once more.
+    ///
+    /// # Panics
+    ///
+    /// If it is not from 0 to 1.
+    ///
+    /// # Examples
+    ///
+    /// ```
+    /// use bb8::Pool;
+    /// use std::time::Duration;
+    /// # include!(concat!(env!("CARGO_MANIFEST_DIR"), "/tests/common/numbers.rs"));
+    /// # #[tokio::main]
+    /// # async fn main() {
+    ///
+    /// let pool = Pool::builder()
+    ///     .max_lifetime(Duration::from_secs(600))
+    ///     .max_lifetime_jitter(0.2)
+    ///     .build(Numbers::default())
+    ///     .await
+    ///     .unwrap();
+    /// assert_eq!(pool.config().max_lifetime_jitter, 0.2);
+    /// # }
+    /// ```
+    #[must_use]
+    pub fn max_lifetime_jitter(mut self, share: f64) -> Self {
+        let is_share = (0.0..=1.0).contains(&share);
+        assert!(is_share, "max_lifetime_jitter must be from 0 to 1!");
+        self.max_lifetime_jitter = share;
+        self
+    }
+
+    /// Whether connections are closed for their age, or for how long they are idle.
+    pub(crate) fn has_limits(&self) -> bool {
+        self.max_lifetime.is_some() || self.idle_timeout.is_some()
+    }
+
+    /// Which connections are checked before they are checked out. All are if each has an end of its
+    /// own.
+    pub(crate) fn checks(&self) -> Checks {
+        if self.has_ends() {
+            Checks::All
+        } else if !self.test_on_check_out {
+            Checks::Off
+        } else if self.test_on_check_out_after > Duration::ZERO {
+            Checks::Stale
+        } else {
+            Checks::All
+        }
+    }
+
+    /// For how long a connection has to be idle until it is checked, as the core is told.
+    pub(crate) fn test_after(&self) -> Duration {
+        match self.checks() {
+            Checks::Stale => self.test_on_check_out_after,
+            Checks::Off | Checks::All => Duration::ZERO,
+        }
+    }
+
+    /// Whether each connection has an end of its own.
+    pub(crate) fn has_ends(&self) -> bool {
+        self.max_lifetime.is_some() && self.max_lifetime_jitter > 0.0
+    }
+
+    /// Returns for how long a new connection may be used, if it has an end of its own.
+    pub(crate) fn life(&self) -> Option<Duration> {
+        let longest = self.max_lifetime.filter(|_| self.has_ends())?;
+        let cut = longest.as_secs_f64() * self.max_lifetime_jitter * random();
+        // An error means more seconds than a duration has.
+        Some(longest.saturating_sub(Duration::try_from_secs_f64(cut).unwrap_or_default()))
     }
 
     /// Sets after how long an idle connection is closed, by the next reap. The default is 10
@@ -212,12 +351,19 @@ impl<M: ManageConnection> Builder<M> {
     /// # Examples
     ///
     /// ```
-    /// use bb8::{Builder, ManageConnection, Pool};
+    /// use bb8::Pool;
     /// use std::time::Duration;
+    /// # include!(concat!(env!("CARGO_MANIFEST_DIR"), "/tests/common/silent.rs"));
+    /// # #[tokio::main]
+    /// # async fn main() {
     ///
-    /// fn patient<M: ManageConnection>() -> Builder<M> {
-    ///     Pool::builder().connect_timeout(Duration::from_secs(5))
-    /// }
+    /// // Over a server that accepts connections and never answers.
+    /// let pool = Pool::builder()
+    ///     .connect_timeout(Duration::from_millis(20))
+    ///     .build_unchecked(Silent::Connect);
+    /// assert!(pool.get_timeout(Duration::from_millis(50)).await.is_err());
+    /// assert!(pool.state().statistics.connections_failed > 0);
+    /// # }
     /// ```
     #[must_use]
     pub fn connect_timeout(mut self, connect_timeout: impl Into<Option<Duration>>) -> Self {
@@ -226,12 +372,12 @@ impl<M: ManageConnection> Builder<M> {
         self
     }
 
-    /// Sets how long a check may take: as long as its get has time by default. One that takes longer
-    /// counts as failed: its connection is closed, and the get goes on with the next one.
+    /// Sets how long a check may take: as long as its get has time by default. One that takes
+    /// longer counts as failed: its connection is closed, and the get goes on with the next one.
     ///
-    /// If connections may die without a reset, as in a failover, set it to some hundred milliseconds,
-    /// so that gets do not wait for checks that never end. Without it, a get whose check hangs times
-    /// out, and that connection is closed, too.
+    /// If connections may die without a reset, as in a failover, set it to some hundred
+    /// milliseconds, so that gets do not wait for checks that never end. Without it, a get whose
+    /// check hangs times out, and that connection is closed, too.
     ///
     /// # Panics
     ///
@@ -240,12 +386,19 @@ impl<M: ManageConnection> Builder<M> {
     /// # Examples
     ///
     /// ```
-    /// use bb8::{Builder, ManageConnection, Pool};
+    /// use bb8::Pool;
     /// use std::time::Duration;
+    /// # include!(concat!(env!("CARGO_MANIFEST_DIR"), "/tests/common/silent.rs"));
+    /// # #[tokio::main]
+    /// # async fn main() {
     ///
-    /// fn brisk<M: ManageConnection>() -> Builder<M> {
-    ///     Pool::builder().test_timeout(Duration::from_millis(200))
-    /// }
+    /// // Over a server that does not answer the check.
+    /// let pool = Pool::builder()
+    ///     .test_timeout(Duration::from_millis(20))
+    ///     .build_unchecked(Silent::Check);
+    /// assert!(pool.get_timeout(Duration::from_millis(50)).await.is_err());
+    /// assert!(pool.state().statistics.checks_timed_out > 0);
+    /// # }
     /// ```
     #[must_use]
     pub fn test_timeout(mut self, test_timeout: impl Into<Option<Duration>>) -> Self {
@@ -257,6 +410,10 @@ impl<M: ManageConnection> Builder<M> {
     /// Sets whether a failed connection attempt is retried until `connection_timeout` has passed.
     /// The default is true. The pauses are 0.4 s, 0.8 s, 1.6 s and so on, at most half the
     /// `connection_timeout`.
+    ///
+    /// As long as a get waits for it, an attempt goes on after that time, too, with the same
+    /// pauses: so a get that outlives an outage is served. This also holds if the setting is off,
+    /// and after the manager has panicked.
     #[must_use]
     pub fn retry_connection(mut self, retry: bool) -> Self {
         self.retry_connection = retry;
@@ -296,6 +453,10 @@ impl<M: ManageConnection> Builder<M> {
 
     /// Sets how often the pool closes connections that are too old, or idle for too long. The
     /// default is every 30 seconds. A pool without these limits has no reaper.
+    ///
+    /// # Panics
+    ///
+    /// If it is zero and an age is limited, building the pool panics.
     #[must_use]
     pub fn reaper_rate(mut self, reaper_rate: Duration) -> Self {
         self.reaper_rate = reaper_rate;
@@ -374,7 +535,8 @@ impl<M: ManageConnection> Builder<M> {
         self
     }
 
-    /// Sets the customizer, which prepares each opened connection. By default there is none.
+    /// Sets the customizer, which prepares each opened connection and looks at each returned one.
+    /// By default there is none.
     ///
     /// # Examples
     ///
@@ -453,6 +615,10 @@ impl<M: ManageConnection> Builder<M> {
         assert!(
             self.min_idle.unwrap_or(0) <= self.max_size,
             "min_idle must be no larger than max_size"
+        );
+        assert!(
+            !self.has_limits() || self.reaper_rate > Duration::ZERO,
+            "reaper_rate must be greater than zero!"
         );
         Pool {
             inner: PoolInner::new(self, manager),

@@ -1,14 +1,17 @@
-//! The proved state machine over the connections of a pool, and what its results ask the pool to do.
+//! The proved state machine over the connections of a pool, and what its results ask the pool to
+//! do.
 
 pub(crate) use bb8_core::api::Moment;
 pub(crate) use bb8_core::internals::{
-    AddAnswer, AtOnce, CheckedErrAnswer, CheckedOkAnswer, ClaimAnswer, ClosedList, GetKey,
-    GiveUpAnswer, Grant, Key, OpenedAnswer, PutBackAnswer, ReapAnswer, Reason, Started, TryAnswer,
+    AddAnswer, AtOnce, CheckedErrAnswer, CheckedOkAnswer, ClaimAnswer, ClosedList, DetachAnswer,
+    GetKey, GiveUpAnswer, Grant, Key, OpenedAnswer, PutBackAnswer, ReapAnswer, Reason, Started,
+    TryAnswer,
 };
 
 use crate::boxed::Boxed;
 use crate::builder::{Builder, QueueStrategy};
 use crate::managers::ManageConnection;
+use crate::moments::Checks;
 use bb8_core::api;
 #[cfg(not(test))]
 use bb8_core::internals::PoolInternals;
@@ -30,7 +33,8 @@ pub(crate) fn core<M: ManageConnection>(settings: &Builder<M>) -> Core<M::Connec
     let config = api::Config {
         max_size: settings.max_size,
         min_idle: settings.min_idle,
-        test_on_check_out: settings.test_on_check_out,
+        test_on_check_out: settings.checks() != Checks::Off,
+        test_after: settings.test_after(),
         max_lifetime: settings.max_lifetime,
         idle_timeout: settings.idle_timeout,
         connection_timeout: settings.connection_timeout,
@@ -47,8 +51,8 @@ pub(crate) fn core<M: ManageConnection>(settings: &Builder<M>) -> Core<M::Connec
 }
 
 /// Panics because a step was refused: it names a get or a connection that the core does not have in
-/// that state. The step has changed nothing. Only a bug in this crate leads here, and nothing may be
-/// checked out or freed on the strength of it.
+/// that state. The step has changed nothing. Only a bug in this crate leads here, and nothing may
+/// be checked out or freed on the strength of it.
 #[cold]
 pub(crate) fn unfit() -> ! {
     panic!("the core refused a step of its own pool");
@@ -122,6 +126,15 @@ impl<C> Leaves<C> for CheckedErrAnswer<Held<C>> {
     fn after(self) -> Option<After<C>> {
         let CheckedErrAnswer::Closed(_, conn, grant, notified) = self;
         closed(conn, grant, notified)
+    }
+}
+
+/// The connection is the pool's no more, so there is none to be dropped.
+impl<C> Leaves<C> for DetachAnswer {
+    #[inline]
+    fn after(self) -> Option<After<C>> {
+        let DetachAnswer::Detached(grant, notified) = self;
+        closed(None, grant, notified)
     }
 }
 

@@ -3,8 +3,34 @@
 use std::error::Error;
 use std::fmt;
 
-/// The error of a get.
+/// The error of a get. A later version may add cases, so a `match` needs a `_`.
+///
+/// # Examples
+///
+/// ```
+/// use bb8::RunError;
+///
+/// /// The status of a response without a connection.
+/// fn status<E>(error: &RunError<E>) -> u16 {
+///     match error {
+///         RunError::User(_) => 502,
+///         _ => 503,
+///     }
+/// }
+/// assert_eq!(status::<()>(&RunError::TimedOut), 503);
+/// ```
+///
+/// ```compile_fail
+/// # use bb8::RunError;
+/// fn name<E>(error: &RunError<E>) -> &str {
+///     match error {
+///         RunError::User(_) | RunError::TimedOut => "of bb8",
+///         RunError::Memory | RunError::Exhausted | RunError::Closed => "of this crate",
+///     }
+/// }
+/// ```
 #[derive(Debug, Clone, PartialEq, Eq)]
+#[non_exhaustive]
 pub enum RunError<E> {
     /// An error of the manager.
     User(E),
@@ -14,6 +40,8 @@ pub enum RunError<E> {
     Memory,
     /// The pool has no number left for another get: all below 2^64 - 1 are used up.
     Exhausted,
+    /// The pool is closed: see [`Pool::close`](crate::Pool::close).
+    Closed,
 }
 
 impl<E: Error + 'static> fmt::Display for RunError<E> {
@@ -23,6 +51,7 @@ impl<E: Error + 'static> fmt::Display for RunError<E> {
             RunError::TimedOut => f.write_str("Timed out in bb8"),
             RunError::Memory => f.write_str("No memory in bb8"),
             RunError::Exhausted => f.write_str("Numbers used up in bb8"),
+            RunError::Closed => f.write_str("Pool closed in bb8"),
         }
     }
 }
@@ -47,7 +76,7 @@ impl<E: Error> From<E> for RunError<E> {
 pub enum AddError<C> {
     /// The manager's `has_broken` returned true.
     Broken(C),
-    /// There are `max_size` connections and connection attempts already.
+    /// There are `max_size` connections and connection attempts already, or the pool is closed.
     NoCapacity(C),
     /// Memory for the connection was refused, or the pool has no number left for it.
     Withheld(C),

@@ -13,7 +13,10 @@ use tokio::time::Instant;
 pub(crate) const FAILED_CHECK: &str = "its check failed";
 pub(crate) const IDLE_TIMEOUT: &str = "idle_timeout";
 pub(crate) const MAX_LIFETIME: &str = "max_lifetime";
-pub(crate) const NO_HANDLE: &str = "the pool has no handle any more";
+pub(crate) const NOT_KEPT: &str = "on_release returned false";
+pub(crate) const RETIRED: &str = "retired";
+/// By a call, or by its last handle.
+pub(crate) const CLOSED: &str = "the pool is closed";
 
 /// Reports an event of a pool at a level, with fields and a message.
 macro_rules! report {
@@ -64,22 +67,35 @@ impl<M: ManageConnection> Shared<M> {
         report!(warn, self, age = ?conn.age(), "broken connection closed");
     }
 
-    /// Reports a connection that is closed for another reason: because of `max_lifetime` if it is so
-    /// old, unless its check failed.
+    /// Reports a connection that left the pool.
+    pub(crate) fn detached(&self, conn: &Boxed<M::Connection>) {
+        report!(debug, self, age = ?conn.age(), "connection detached");
+    }
+
+    /// Reports a connection that the core closed when it was returned or opened.
+    #[inline]
+    pub(crate) fn ended(&self, conn: &Boxed<M::Connection>) {
+        #[cfg(feature = "tracing")]
+        self.closed(conn, if self.is_closed() { CLOSED } else { RETIRED });
+    }
+
+    /// Reports a connection that is closed for another reason: because of `max_lifetime`, if it is
+    /// so old, instead of `idle_timeout`, or because it was retired.
     pub(crate) fn closed(&self, conn: &Boxed<M::Connection>, reason: &str) {
         #[cfg(feature = "tracing")]
         {
             let age = conn.age();
             let is_old = self.settings.max_lifetime.is_some_and(|limit| age >= limit);
             let reason = match reason {
-                IDLE_TIMEOUT if is_old => MAX_LIFETIME,
+                IDLE_TIMEOUT | RETIRED if is_old => MAX_LIFETIME,
                 reason => reason,
             };
             report!(debug, self, reason, ?age, "connection closed");
         }
     }
 
-    /// Reports a served get that began at this instant, if it took longer than `slow_get_threshold`.
+    /// Reports a served get that began at this instant, if it took longer than
+    /// `slow_get_threshold`.
     #[inline]
     pub(crate) fn served(&self, began: Option<Instant>) {
         #[cfg(feature = "tracing")]

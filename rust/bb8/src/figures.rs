@@ -21,9 +21,33 @@ pub struct State {
 /// What happened to a pool since it was built.
 ///
 /// At every moment, `connections_created` plus `connections_added` equals `connections_closed` plus
-/// [`State::connections`]. The figures by reason do not add up to `connections_closed`: a connection
-/// whose check failed and that was broken, too, counts in two of them, and those that the last
-/// handle closed in none.
+/// `connections_detached` plus [`State::connections`]. The figures by reason do not add up to
+/// `connections_closed`: a connection whose check failed and that was broken, past `max_lifetime`
+/// or retired, too, counts in two of them, and those that [`Pool::close`](crate::Pool::close) or
+/// the last handle closed in none.
+///
+/// # Examples
+///
+/// ```
+/// use bb8::{Pool, PooledConnection};
+/// # include!(concat!(env!("CARGO_MANIFEST_DIR"), "/tests/common/numbers.rs"));
+/// # #[tokio::main]
+/// # async fn main() {
+///
+/// let pool = Pool::builder().build(Numbers::default()).await.unwrap();
+/// let conn = pool.get().await.unwrap(); // opens a connection
+/// assert_eq!(PooledConnection::detach(conn), 0);
+/// pool.add(7).unwrap();
+/// pool.retire(); // closes the added one, which is idle
+///
+/// let state = pool.state();
+/// let figures = state.statistics;
+/// assert_eq!((figures.connections_created, figures.connections_added), (1, 1));
+/// assert_eq!((figures.connections_closed, figures.connections_detached), (1, 1));
+/// assert_eq!(figures.connections_closed_retired, 1);
+/// assert_eq!((state.connections, state.pending_connections), (0, 0));
+/// # }
+/// ```
 #[derive(Clone, Debug, Default, PartialEq, Eq)]
 #[non_exhaustive]
 pub struct Statistics {
@@ -37,8 +61,11 @@ pub struct Statistics {
     pub get_waited: u64,
     /// `get` calls that timed out.
     pub get_timed_out: u64,
-    /// `get` calls whose future was dropped before it resolved. A `get` inside of tokio's `timeout`
-    /// counts here, not as timed out.
+    /// `get` calls whose future was dropped before it resolved. One that a `timeout(d, pool.get())`
+    /// from outside cuts off counts here, not as timed out;
+    /// [`Pool::get_timeout`](crate::Pool::get_timeout) counts as timed out. A
+    /// [`Pool::try_get`](crate::Pool::try_get) counts here if all that it checked failed, and a get
+    /// that waits when the pool is closed.
     pub get_cancelled: u64,
     /// How long the served and timed-out gets had waited, each from its first wait to its end, in
     /// whole microseconds.
@@ -49,17 +76,30 @@ pub struct Statistics {
     pub connections_added: u64,
     /// Attempts to open a connection that failed, timed out or panicked, each try counted.
     pub connections_failed: u64,
-    /// Connections that were closed, for any reason, each counted once.
+    /// Connections that were closed, for any reason, each counted once. Detached ones do not count.
     pub connections_closed: u64,
-    /// Connections that were closed because they were broken, or because their check was cut off.
+    /// Connections that were closed because they were broken, because their check was cut off,
+    /// because [`CustomizeConnection::on_release`](crate::CustomizeConnection::on_release) did not
+    /// keep them, or because they were returned past the end that
+    /// [`Builder::max_lifetime_jitter`](crate::Builder::max_lifetime_jitter) gave them.
     pub connections_closed_broken: u64,
     /// Connections that were closed because their check failed, or took longer than
-    /// [`Builder::test_timeout`](crate::Builder::test_timeout).
+    /// [`Builder::test_timeout`](crate::Builder::test_timeout), or because a get took them out past
+    /// the end that [`Builder::max_lifetime_jitter`](crate::Builder::max_lifetime_jitter) gave
+    /// them.
     pub connections_closed_invalid: u64,
-    /// Connections that were closed because of `max_lifetime`.
+    /// Connections that were closed because of `max_lifetime`, and were not retired. Those past an
+    /// earlier end, by [`Builder::max_lifetime_jitter`](crate::Builder::max_lifetime_jitter), count
+    /// as broken or invalid.
     pub connections_closed_max_lifetime: u64,
     /// Connections that were closed because of `idle_timeout`.
     pub connections_closed_idle_timeout: u64,
+    /// Connections that were closed because of [`Pool::retire`](crate::Pool::retire). Those that
+    /// were past `max_lifetime`, too, count here alone.
+    pub connections_closed_retired: u64,
+    /// Connections that left the pool by
+    /// [`PooledConnection::detach`](crate::PooledConnection::detach).
+    pub connections_detached: u64,
     /// Checks that took longer than `test_timeout`, or than their get had time.
     pub checks_timed_out: u64,
 }
@@ -84,6 +124,9 @@ impl State {
     pub(crate) fn new(state: api::State, pending_connections: u32, counts: &Counts) -> Self {
         let figures = state.statistics;
         let opened = figures.connections_created.saturating_add(counts.added);
+        let left = figures
+            .connections_detached
+            .saturating_add(state.connections.into());
         State {
             connections: state.connections,
             idle_connections: state.idle_connections,
@@ -98,11 +141,13 @@ impl State {
                 connections_created: figures.connections_created,
                 connections_added: counts.added,
                 connections_failed: counts.failed,
-                connections_closed: opened.saturating_sub(state.connections.into()),
+                connections_closed: opened.saturating_sub(left),
                 connections_closed_broken: figures.connections_closed_broken,
                 connections_closed_invalid: figures.connections_closed_invalid,
                 connections_closed_max_lifetime: figures.connections_closed_max_lifetime,
                 connections_closed_idle_timeout: figures.connections_closed_idle_timeout,
+                connections_closed_retired: figures.connections_closed_retired,
+                connections_detached: figures.connections_detached,
                 checks_timed_out: counts.checks_timed_out,
             },
         }

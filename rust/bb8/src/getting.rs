@@ -1,6 +1,7 @@
 //! One `get`: it tries, waits, checks the connection that it was handed, and ends.
 
 use crate::api::{Pool, PooledConnection};
+use crate::builder::Builder;
 use crate::core::{
     after, unfit, CheckedOkAnswer, Checkout, Core, GetKey, Held, Key, Moment, Reason, Started,
     TryAnswer,
@@ -8,6 +9,7 @@ use crate::core::{
 use crate::errors::RunError;
 use crate::lock::MutexGuard;
 use crate::managers::ManageConnection;
+use crate::moments::Checks;
 use crate::pool::{Locked, Shared};
 use crate::returning::Fate;
 use crate::waiters::Handed;
@@ -16,6 +18,7 @@ use std::mem::{self, ManuallyDrop};
 use std::pin::{pin, Pin};
 use std::sync::Arc;
 use std::task::{Context, Poll, Waker};
+use std::time::Duration;
 use tokio::task::unconstrained;
 use tokio::time::{sleep_until, Instant, Sleep};
 
@@ -39,8 +42,10 @@ pub(crate) enum Tried {
     /// The get holds a connection that is to be checked.
     Taken,
     TimedOut,
-    /// Memory for the get was refused.
-    Memory,
+    /// No connection is idle, and the get does not wait.
+    NoneIdle,
+    /// The pool is closed, or memory for the get was refused.
+    Refused,
     /// No number was left for the get.
     Exhausted,
 }
@@ -59,99 +64,82 @@ pub(crate) struct Getting<'a, M: ManageConnection> {
 }
 
 impl<M: ManageConnection> Pool<M> {
-    /// Waits for a connection. It is returned to the pool when the guard is dropped.
-    ///
-    /// Waiting gets are woken in the order in which they began to wait. By default, whoever asks
-    /// before a woken get is polled takes the connection: see
-    /// [`Builder::fair_after`](crate::Builder::fair_after). A get can be cancelled by dropping its
-    /// future; what it was promised or handed goes to the next one.
-    ///
-    /// # Errors
-    ///
-    /// `TimedOut` if no connection became available within `connection_timeout`; `Memory` and
-    /// `Exhausted` if the get could not begin. Errors of the manager go to the error sink.
-    pub async fn get(&self) -> Result<PooledConnection<'_, M>, RunError<M::Error>> {
-        if let Some(checkout) = self.inner.get_at_once() {
-            return Ok(PooledConnection::new(&self.inner, checkout));
-        }
+    /// Checks a connection out, and returns the result for its guard. There is none if the time is
+    /// over, or if no connection is idle and the get does not wait.
+    pub(crate) async fn checkout<'a, const WAITS: bool, T>(
+        &'a self,
+        limit: impl Limit<M>,
+        result: impl FnOnce(Option<PooledConnection<'a, M>>) -> Result<T, RunError<M::Error>>,
+    ) -> Result<T, RunError<M::Error>> {
         let shared = self.inner.shared();
+        let checks = shared.checks != Checks::Off;
+        if let Some(checkout) = (!checks).then(|| shared.get_at_once()).flatten() {
+            return result(Some(PooledConnection::new(&self.inner, checkout)));
+        }
         let mut timer = pin!(None);
         let mut getting = Getting::new(shared);
-        let mut tried = getting.try_at_once();
+        let tries = WAITS && shared.checks == Checks::All;
+        let mut next = tries.then(|| getting.try_at_once(0)).flatten();
         let checkout = loop {
-            let tried = match tried.take() {
+            let tried = match next.take() {
                 Some(tried) => tried,
-                None => poll_fn(|cx| getting.try_in_time(cx, timer.as_mut())).await,
+                None if WAITS => poll_fn(|cx| getting.try_in_time(cx, timer.as_mut(), limit)).await,
+                None => getting.try_idle().unwrap_or(Tried::NoneIdle),
             };
             match tried {
                 Tried::Served => break getting.served(),
                 Tried::Taken => {}
-                Tried::TimedOut => break getting.time_out()?,
-                Tried::Memory => return Err(RunError::Memory),
+                Tried::TimedOut => match getting.time_out() {
+                    Ok(checkout) => break checkout,
+                    Err(_) => return result(None),
+                },
+                Tried::NoneIdle if shared.is_closed() => return Err(RunError::Closed),
+                Tried::NoneIdle => return result(None),
+                Tried::Refused => return Err(shared.refusal()),
                 Tried::Exhausted => return Err(RunError::Exhausted),
             }
-            let checked = {
-                let (began, timer) = (&mut getting.began, &mut timer);
-                let conn = &mut *getting.held.as_mut().expect(HOLDS).conn;
-                let mut check = pin!(shared.manager.is_valid(conn));
-                let mut is_first = true;
-                poll_fn(move |cx| match check.as_mut().poll(cx) {
-                    Poll::Ready(checked) => Poll::Ready(Some(checked)),
-                    Poll::Pending => {
-                        if mem::take(&mut is_first) {
-                            limit_check(timer.as_mut(), began, shared);
-                        }
-                        poll_deadline(timer.as_mut(), began, shared, cx).map(|()| None)
-                    }
-                })
-                .await
+            let by_age = shared.has_ends.then(|| getting.check_age()).flatten();
+            let checked = match by_age {
+                Some(checked) => checked,
+                None => {
+                    let checked = {
+                        let conn = &mut *getting.held.as_mut().expect(HOLDS).conn;
+                        let check = pin!(shared.manager.is_valid(conn));
+                        in_time(check, timer.as_mut(), &mut getting.began, limit, shared).await
+                    };
+                    getting.conclude(checked, limit)
+                }
             };
             match checked {
-                Some(Ok(())) => break getting.pass(),
-                Some(Err(error)) => getting.close(Some(error)),
-                None if getting.is_over() => break getting.time_out()?,
-                None => getting.close(None),
+                Checked::Passed => break getting.pass(),
+                Checked::Failed if !getting.is_over(limit) => {
+                    if shared.settings.test_timeout.is_some() {
+                        timer.set(None);
+                    }
+                    next_poll().await;
+                }
+                Checked::Failed | Checked::TimedOut => next = Some(Tried::TimedOut),
             }
-            if shared.settings.test_timeout.is_some() {
-                timer.set(None);
-            }
-            if getting.is_over() {
-                break getting.time_out()?;
-            }
-            next_poll().await;
         };
-        Ok(PooledConnection::new(&self.inner, checkout))
-    }
-
-    /// As [`Pool::get`], but the guard is a handle of the pool, too. So it may outlive this handle,
-    /// and the pool stays open as long as the guard lives.
-    ///
-    /// # Errors
-    ///
-    /// As [`Pool::get`].
-    ///
-    /// # Examples
-    ///
-    /// A task takes its connection along:
-    ///
-    /// ```
-    /// use bb8::{ManageConnection, Pool, RunError};
-    ///
-    /// async fn start<M: ManageConnection>(pool: &Pool<M>) -> Result<(), RunError<M::Error>> {
-    ///     let mut conn = pool.get_owned().await?;
-    ///     tokio::spawn(async move {
-    ///         work(&mut conn).await;
-    ///     });
-    ///     Ok(())
-    /// }
-    /// # async fn work<C>(_: &mut C) {}
-    /// ```
-    pub async fn get_owned(&self) -> Result<PooledConnection<'static, M>, RunError<M::Error>> {
-        Ok(self.get().await?.into_owned())
+        result(Some(PooledConnection::new(&self.inner, checkout)))
     }
 }
 
+/// The outcome of a check.
+enum Checked {
+    Passed,
+    /// The connection is closed.
+    Failed,
+    /// The time of the get is over.
+    TimedOut,
+}
+
 const HOLDS: &str = "a get that checks holds a connection";
+
+/// How long a get may take, by the settings of its pool.
+pub(crate) trait Limit<M: ManageConnection>: Fn(&Builder<M>) -> Duration + Copy {}
+
+impl<M: ManageConnection, F: Fn(&Builder<M>) -> Duration + Copy> Limit<M> for F {}
 
 /// Returns the timer of a get, which is only started here, when the get first has to wait. There is
 /// none if the deadline is later than any instant.
@@ -159,11 +147,12 @@ const HOLDS: &str = "a get that checks holds a connection";
 fn started<'t, M: ManageConnection>(
     mut timer: Pin<&'t mut Option<Sleep>>,
     began: &mut Option<Instant>,
+    limit: impl Limit<M>,
     shared: &Shared<M>,
 ) -> Option<Pin<&'t mut Sleep>> {
     if timer.is_none() {
         let began = *began.get_or_insert_with(Instant::now);
-        let deadline = began.checked_add(shared.settings.connection_timeout)?;
+        let deadline = began.checked_add(limit(&shared.settings))?;
         timer.set(Some(sleep_until(deadline)));
     }
     timer.as_pin_mut()
@@ -175,31 +164,44 @@ fn started<'t, M: ManageConnection>(
 fn limit_check<M: ManageConnection>(
     mut timer: Pin<&mut Option<Sleep>>,
     began: &mut Option<Instant>,
+    limit: impl Limit<M>,
     shared: &Shared<M>,
 ) {
-    let Some(limit) = shared.settings.test_timeout else {
+    let Some(test_timeout) = shared.settings.test_timeout else {
         return;
     };
     let now = Instant::now();
     let began = *began.get_or_insert(now);
     let ends = [
-        now.checked_add(limit),
-        began.checked_add(shared.settings.connection_timeout),
+        now.checked_add(test_timeout),
+        began.checked_add(limit(&shared.settings)),
     ];
     timer.set(ends.into_iter().flatten().min().map(sleep_until));
 }
 
-/// As `started`, for a check, which may use up its task's budget: the timer fires all the same.
-fn poll_deadline<M: ManageConnection>(
-    timer: Pin<&mut Option<Sleep>>,
-    began: &mut Option<Instant>,
-    shared: &Shared<M>,
-    cx: &mut Context<'_>,
-) -> Poll<()> {
-    match started(timer, began, shared) {
-        Some(timer) => pin!(unconstrained(timer)).poll(cx),
-        None => Poll::Pending,
-    }
+/// Resolves once the check does, or to `None` once its time is over. The check may use up the
+/// budget of its task: the timer fires all the same.
+#[inline(always)]
+fn in_time<'c, M: ManageConnection, T>(
+    mut check: Pin<&'c mut impl Future<Output = T>>,
+    mut timer: Pin<&'c mut Option<Sleep>>,
+    began: &'c mut Option<Instant>,
+    limit: impl Limit<M> + 'c,
+    shared: &'c Shared<M>,
+) -> impl Future<Output = Option<T>> + 'c {
+    let mut is_first = true;
+    poll_fn(move |cx| match check.as_mut().poll(cx) {
+        Poll::Ready(checked) => Poll::Ready(Some(checked)),
+        Poll::Pending => {
+            if mem::take(&mut is_first) {
+                limit_check(timer.as_mut(), began, limit, shared);
+            }
+            match started(timer.as_mut(), began, limit, shared) {
+                Some(timer) => pin!(unconstrained(timer)).poll(cx).map(|()| None),
+                None => Poll::Pending,
+            }
+        }
+    })
 }
 
 impl<'a, M: ManageConnection> Getting<'a, M> {
@@ -218,24 +220,43 @@ impl<'a, M: ManageConnection> Getting<'a, M> {
         }
     }
 
-    /// Begins and tries if a connection is idle. Such a get does not wait, so its moment and its
-    /// waker do not matter.
+    /// Begins and tries if a connection is idle. Such a get does not wait, so its waker does not
+    /// matter, and its moment, that of `try_now`, only to whether the connection is checked.
     #[inline(always)]
-    fn try_at_once(&mut self) -> Option<Tried> {
-        if !self.shared.settings.test_on_check_out {
+    fn try_at_once(&mut self, at: u64) -> Option<Tried> {
+        let mut locked = self.shared.lock();
+        if locked.core.idle() == 0 {
             return None;
+        }
+        let started = self.start(&mut locked.core, at);
+        self.tried(locked, started, &mut None)
+    }
+
+    /// As `try_at_once`, in any pool, and for a get that may have begun.
+    #[inline(never)]
+    fn try_idle(&mut self) -> Option<Tried> {
+        let at = self.shared.try_now();
+        if self.stage == Stage::New {
+            return self.try_at_once(at);
         }
         let mut locked = self.shared.lock();
         if locked.core.idle() == 0 {
             return None;
         }
-        let started = self.start(&mut locked.core, 0);
-        self.tried(locked, started, &mut None)
+        match locked.core.try_get(Moment(at), self.key) {
+            Ok(answer) => self.tried(locked, Ok(answer), &mut None),
+            Err(_) => unfit(),
+        }
     }
 
     /// Resolves once the get has a connection, its time is over, or it could not begin.
     #[inline(always)]
-    fn try_in_time(&mut self, cx: &mut Context<'_>, timer: Pin<&mut Option<Sleep>>) -> Poll<Tried> {
+    fn try_in_time(
+        &mut self,
+        cx: &mut Context<'_>,
+        timer: Pin<&mut Option<Sleep>>,
+        limit: impl Limit<M>,
+    ) -> Poll<Tried> {
         // Wakers are cloned and dropped, and the clock is read, outside of the lock.
         let mut waker = Some(cx.waker().clone());
         let tried = match self.stage {
@@ -245,7 +266,7 @@ impl<'a, M: ManageConnection> Getting<'a, M> {
         if let Some(tried) = tried {
             return Poll::Ready(tried);
         }
-        match started(timer, &mut self.began, self.shared) {
+        match started(timer, &mut self.began, limit, self.shared) {
             Some(timer) => timer.poll(cx).map(|()| Tried::TimedOut),
             None => Poll::Pending,
         }
@@ -262,9 +283,7 @@ impl<'a, M: ManageConnection> Getting<'a, M> {
 
     /// Tries again. Returns `None` if the get waits.
     fn retry(&mut self, waker: &mut Option<Waker>) -> Option<Tried> {
-        // If a check follows, the moment at its end tells how long the get has waited.
-        let checks = self.shared.settings.test_on_check_out;
-        let at = if checks { 0 } else { self.shared.now() };
+        let at = self.shared.retry_now();
         let _removed;
         let mut locked = self.shared.lock();
         if let Some(handed) = locked.waiters.take_handed(self.key) {
@@ -279,6 +298,7 @@ impl<'a, M: ManageConnection> Getting<'a, M> {
     }
 
     /// Returns the moment at which the get began.
+    #[inline(always)]
     fn since(&mut self) -> u64 {
         let began = *self.began.get_or_insert_with(Instant::now);
         *self.since.get_or_insert_with(|| self.shared.moment(began))
@@ -293,9 +313,8 @@ impl<'a, M: ManageConnection> Getting<'a, M> {
                 self.stage = Stage::Begun;
                 Ok(answer)
             }
-            Ok(Started::Memory) => Err(Tried::Memory),
+            Ok(Started::Memory) | Err(_) => Err(Tried::Refused),
             Ok(Started::Exhausted) => Err(Tried::Exhausted),
-            Err(_) => unfit(),
         }
     }
 
@@ -320,7 +339,7 @@ impl<'a, M: ManageConnection> Getting<'a, M> {
             Ok(TryAnswer::Waiting(grant)) => {
                 self.stage = Stage::Waited;
                 let noted = locked.waiters.wait(self.key, self.since(), waker);
-                ((!noted).then_some(Tried::Memory), grant.count)
+                ((!noted).then_some(Tried::Refused), grant.count)
             }
             Err(refused) => (Some(refused), 0),
         };
@@ -343,6 +362,31 @@ impl<'a, M: ManageConnection> Getting<'a, M> {
         }
     }
 
+    /// Checks the age of the connection that it holds, if connections have ends of their own.
+    /// Returns `None` if the manager has to check it as well.
+    #[cold]
+    fn check_age(&mut self) -> Option<Checked> {
+        let shared = self.shared;
+        if shared.is_past_end(&self.held.as_ref()?.conn) {
+            self.close_as(Fate::TooOld);
+            return Some(Checked::Failed);
+        }
+        let passed = !shared.settings.test_on_check_out;
+        passed.then_some(Checked::Passed)
+    }
+
+    /// Goes on after a check by the manager, or after none if its time was over.
+    #[inline(always)]
+    fn conclude(&mut self, checked: Option<Result<(), M::Error>>, limit: impl Limit<M>) -> Checked {
+        match checked {
+            Some(Ok(())) => return Checked::Passed,
+            Some(Err(error)) => self.close(Some(error)),
+            None if self.is_over(limit) => return Checked::TimedOut,
+            None => self.close(None),
+        }
+        Checked::Failed
+    }
+
     /// Ends as served. The core knows that already.
     #[inline(always)]
     fn served(self) -> Checkout<M::Connection> {
@@ -356,9 +400,7 @@ impl<'a, M: ManageConnection> Getting<'a, M> {
     fn pass(self) -> Checkout<M::Connection> {
         let mut ended = ManuallyDrop::new(self);
         let shared = ended.shared;
-        // The moment only matters for how long a get has waited.
-        let waited = ended.stage == Stage::Waited;
-        let at = if waited { shared.now() } else { 0 };
+        let at = shared.passed_now(ended.stage == Stage::Waited);
         let mut checkout = ended.held.take().expect(HOLDS);
         let mut locked = shared.lock();
         let passed = locked
@@ -374,9 +416,9 @@ impl<'a, M: ManageConnection> Getting<'a, M> {
     }
 
     /// Whether its time is over.
-    fn is_over(&mut self) -> bool {
+    fn is_over(&mut self, limit: impl Limit<M>) -> bool {
         let began = *self.began.get_or_insert_with(Instant::now);
-        began.elapsed() >= self.shared.settings.connection_timeout
+        began.elapsed() >= limit(&self.shared.settings)
     }
 
     /// Ends because its time is over, unless it was served since its last try.
@@ -390,6 +432,16 @@ impl<'a, M: ManageConnection> Getting<'a, M> {
     /// the `test_timeout`.
     #[cold]
     fn close(&mut self, error: Option<M::Error>) {
+        if error.is_none() {
+            self.shared.lock().counts.checks_timed_out += 1;
+        }
+        self.shared.check_failed(error.as_ref());
+        self.close_as(Fate::Invalid);
+        self.shared.forward(error);
+    }
+
+    /// Closes the connection that it holds as one whose check failed.
+    fn close_as(&mut self, fate: Fate) {
         let Some(checkout) = self.held.take() else {
             return;
         };
@@ -397,13 +449,7 @@ impl<'a, M: ManageConnection> Getting<'a, M> {
         let step = |core: &mut Core<_>, at, key: Key, conn, broken| {
             after(core.checked_err(at, get, conn, broken, key.place))
         };
-        if error.is_none() {
-            self.shared.lock().counts.checks_timed_out += 1;
-        }
-        self.shared.check_failed(error.as_ref());
-        self.shared
-            .take_back(checkout, Fate::Invalid, Shared::now, step);
-        self.shared.forward(error);
+        self.shared.take_back(checkout, fate, Shared::now, step);
     }
 
     /// Ends without a connection, unless it was served since its last try: then it returns the
@@ -412,11 +458,7 @@ impl<'a, M: ManageConnection> Getting<'a, M> {
     fn end(&mut self, reason: Reason) -> Option<Checkout<M::Connection>> {
         let mut fate = Fate::CutOff;
         if self.held.is_none() {
-            // The moment of a cancelled get only matters for how long others have waited.
-            let at = match (reason, self.shared.fair_after) {
-                (Reason::Cancelled, None) => 0,
-                _ => self.shared.now(),
-            };
+            let at = self.shared.given_up_now(reason);
             let _removed;
             let mut locked = self.shared.lock();
             let Some(handed) = locked.waiters.take_handed(self.key) else {
@@ -430,7 +472,11 @@ impl<'a, M: ManageConnection> Getting<'a, M> {
             if let Tried::Served = self.take(handed) {
                 return self.held.take();
             }
-            fate = Fate::Kept;
+            // No check has begun. Exception: where fresh connections are not checked, this one
+            // would be checked out as a fresh one next, so the core closes it.
+            if self.shared.checks != Checks::Stale {
+                fate = Fate::Kept;
+            }
         } else if let Reason::TimedOut = reason {
             self.shared.lock().counts.checks_timed_out += 1;
             self.shared.check_failed(None);

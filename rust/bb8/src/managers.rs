@@ -37,7 +37,8 @@ pub trait ManageConnection: Sized + Send + Sync + 'static {
     fn has_broken(&self, conn: &mut Self::Connection) -> bool;
 }
 
-/// Prepares each connection that a pool opens, before its first use.
+/// Prepares each connection that a pool opens, before its first use, and looks at each that is
+/// returned.
 pub trait CustomizeConnection<C: Send + 'static, E: 'static>:
     fmt::Debug + Send + Sync + 'static
 {
@@ -48,6 +49,45 @@ pub trait CustomizeConnection<C: Send + 'static, E: 'static>:
         _connection: &'a mut C,
     ) -> Pin<Box<dyn Future<Output = Result<(), E>> + Send + 'a>> {
         Box::pin(async { Ok(()) })
+    }
+
+    /// Looks at a connection that a guard returns, and returns whether the pool keeps it. By
+    /// default every connection is kept.
+    ///
+    /// It is called when a guard is dropped, unless [`ManageConnection::has_broken`] returned true,
+    /// and not for connections that no guard had. It should not block. A connection for which it
+    /// returns false or panics is closed, and counts in `connections_closed_broken`.
+    ///
+    /// # Examples
+    ///
+    /// Each connection is used at most twice:
+    ///
+    /// ```
+    /// use bb8::{CustomizeConnection, Pool};
+    /// # include!(concat!(env!("CARGO_MANIFEST_DIR"), "/tests/common/numbers.rs"));
+    ///
+    /// #[derive(Debug)]
+    /// struct Twice;
+    ///
+    /// impl<E: 'static> CustomizeConnection<u32, E> for Twice {
+    ///     fn on_release(&self, uses: &mut u32) -> bool {
+    ///         *uses += 1;
+    ///         *uses < 2
+    ///     }
+    /// }
+    ///
+    /// # #[tokio::main]
+    /// # async fn main() {
+    /// let builder = Pool::builder().connection_customizer(Box::new(Twice));
+    /// let pool = builder.build(Numbers::default()).await.unwrap();
+    /// for idle in [1, 0] {
+    ///     drop(pool.get().await.unwrap());
+    ///     assert_eq!(pool.state().idle_connections, idle);
+    /// }
+    /// # }
+    /// ```
+    fn on_release(&self, _connection: &mut C) -> bool {
+        true
     }
 }
 

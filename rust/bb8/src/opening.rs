@@ -3,11 +3,14 @@
 use crate::boxed::Reserved;
 use crate::core::{after, unfit, Key, Moment};
 use crate::managers::ManageConnection;
-use crate::pool::Shared;
+use crate::pool::{Locked, Shared};
+use futures_util::future::{select, Either};
+use std::pin::pin;
 use std::sync::Arc;
 use std::task::Waker;
 use std::thread;
 use std::time::Duration;
+use tokio::runtime::Handle;
 use tokio::time::{sleep, timeout, Instant};
 
 /// A claimed approval, and the memory for its connection.
@@ -21,6 +24,10 @@ pub(crate) struct Claimed<C> {
 pub(crate) struct Opening<M: ManageConnection> {
     shared: Arc<Shared<M>>,
     claimed: Option<Claimed<M::Connection>>,
+    /// The pause before the next try.
+    wait: Duration,
+    /// Whether it has been polled. Then a panic may be the manager's.
+    has_begun: bool,
 }
 
 /// Half of the first back-off.
@@ -31,6 +38,8 @@ impl<M: ManageConnection> Opening<M> {
         Opening {
             shared: shared.clone(),
             claimed: Some(claimed),
+            wait: Duration::ZERO,
+            has_begun: false,
         }
     }
 
@@ -52,14 +61,17 @@ impl<M: ManageConnection> Opening<M> {
         Opening::new(shared, claimed)
     }
 
-    /// Opens the connection. After an error it tries again, as long as there is time for it and the
-    /// pool has a handle. An attempt may take as long as the limit. Returns the error of the last
-    /// one, or `None` if that took too long.
+    /// Opens the connection. After an error it tries again: as long as there is time for it, and
+    /// after that as long as a get waits. An attempt may take as long as the limit. Returns the
+    /// error of the last one, or `None` if that took too long.
     pub(crate) async fn run(mut self, limit: Duration) -> Result<(), Option<M::Error>> {
-        let time = self.shared.settings.connection_timeout;
+        let settings = &self.shared.clone().settings;
         let start = Instant::now();
-        let mut wait = Duration::ZERO;
+        self.has_begun = true;
         loop {
+            if self.wait > Duration::ZERO {
+                sleep(self.wait).await;
+            }
             let error = match timeout(limit, self.shared.connect()).await {
                 Ok(Ok(conn)) => {
                     self.enter(conn);
@@ -70,28 +82,71 @@ impl<M: ManageConnection> Opening<M> {
             };
             self.shared.lock().counts.failed += 1;
             self.shared.attempt_failed(error.as_ref());
-            let retries = self.shared.settings.retry_connection;
-            if !retries || start.elapsed() > time || !self.shared.is_alive() {
-                if let Some(claimed) = self.claimed.take() {
-                    self.shared.give_back(claimed);
-                }
+            let has_time = start.elapsed() <= settings.connection_timeout;
+            let retries = settings.retry_connection && has_time && !self.shared.is_closed();
+            if !retries && !self.goes_on() {
                 return Err(error);
             }
             self.shared.forward(error);
-            wait = wait.max(SHORTEST).saturating_mul(2).min(time / 2);
-            sleep(wait).await;
+            self.back_off();
         }
     }
 
-    /// As `run`, for a task of its own: the last error, too, goes to the error sink.
+    /// As `run`, for a task of its own: it ends when the pool is closed, and the last error, too,
+    /// goes to the error sink.
     pub(crate) async fn run_alone(self) {
         let shared = self.shared.clone();
         let settings = &shared.settings;
         let limit = settings
             .connect_timeout
             .unwrap_or(settings.connection_timeout);
-        if let Err(error) = self.run(limit).await {
+        let closed = pin!(shared.until_closed());
+        let run = pin!(self.run(limit));
+        if let Either::Right((Err(error), _)) = select(closed, run).await {
             shared.forward(error);
+        }
+    }
+
+    /// Makes the pause before the next try longer. It is never zero, so that other tasks run.
+    fn back_off(&mut self) {
+        let longest = self.shared.settings.connection_timeout / 2;
+        let longer = self.wait.max(SHORTEST).saturating_mul(2);
+        self.wait = longer.min(longest).max(Duration::from_millis(1));
+    }
+
+    /// Gives back the approval, and asks for another one if a get waits. Returns whether this goes
+    /// on for that one. So the pauses do not begin anew.
+    fn goes_on(&mut self) -> bool {
+        let Some(Claimed { approval, reserved }) = self.claimed.take() else {
+            return false;
+        };
+        let at = self.shared.now();
+        let mut locked = self.shared.lock();
+        locked.give_back(at, approval);
+        let granted = locked.core.ask(Moment(at)).count;
+        let approval = match granted {
+            0 => None,
+            _ => locked.claim(at, self.shared.settings.max_size),
+        };
+        drop(locked);
+        self.shared.closing.notify_waiters();
+        self.claimed = approval.map(|approval| Claimed { approval, reserved });
+        if granted > 1 {
+            self.shared.open();
+        }
+        self.claimed.is_some()
+    }
+
+    /// Goes on in a task of its own, after a panic.
+    fn respawn(&mut self) {
+        let Some(claimed) = self.claimed.take() else {
+            return;
+        };
+        let mut next = Opening::new(&self.shared, claimed);
+        next.wait = self.wait;
+        // Outside of a runtime it is dropped, and left to the next one.
+        if let Ok(runtime) = Handle::try_current() {
+            runtime.spawn(next.run_alone());
         }
     }
 
@@ -100,57 +155,56 @@ impl<M: ManageConnection> Opening<M> {
         let Some(Claimed { approval, reserved }) = self.claimed.take() else {
             return;
         };
-        let conn = Some(reserved.fill(conn));
+        let mut conn = reserved.fill(conn);
         self.shared.opened();
         let at = self.shared.now();
+        self.shared.set_end(&mut conn, at);
         let mut locked = self.shared.lock();
         locked.pending -= 1;
-        let entered = locked.core.opened(Moment(at), approval, conn);
+        let entered = locked.core.opened(Moment(at), approval, Some(conn));
         self.shared.settle(locked, at, after(entered));
     }
 }
 
 impl<M: ManageConnection> Drop for Opening<M> {
     fn drop(&mut self) {
-        let Some(claimed) = self.claimed.take() else {
+        if self.claimed.is_none() {
             return;
-        };
-        if thread::panicking() {
-            self.shared.lock().counts.failed += 1;
         }
-        // A manager that panics is not called again for the same approval.
-        if thread::panicking() || !self.shared.is_alive() {
-            self.shared.give_back(claimed);
-        } else {
+        if self.has_begun && thread::panicking() {
+            self.shared.lock().counts.failed += 1;
+            // A manager that panics is not called again for the same approval.
+            if self.goes_on() {
+                self.back_off();
+                self.respawn();
+            }
+        } else if let Some(claimed) = self.claimed.take() {
             self.shared.hand_on(claimed);
         }
     }
 }
 
-impl<M: ManageConnection> Shared<M> {
-    /// Whether a handle of the pool is alive.
-    fn is_alive(&self) -> bool {
-        let at = self.now();
-        self.lock().core.look(Moment(at)).alive
-    }
-
-    /// Gives back an approval whose attempt failed for good.
-    fn give_back(&self, claimed: Claimed<M::Connection>) {
-        let at = self.now();
-        let mut locked = self.lock();
-        locked.pending -= 1;
-        if locked.core.failed(Moment(at), claimed.approval).is_err() {
+impl<C> Locked<C> {
+    /// Gives back an approval whose attempt ended without a connection.
+    fn give_back(&mut self, at: u64, approval: Key) {
+        self.pending -= 1;
+        if self.core.failed(Moment(at), approval).is_err() {
             unfit();
         }
     }
+}
 
+impl<M: ManageConnection> Shared<M> {
     /// Leaves an approval to the next task that makes a step inside of a runtime. Waiting gets make
-    /// none, so all are woken, as the runtimes of some may have shut down, too.
+    /// none, so all are woken, as the runtimes of some may have shut down, too. In a closed pool,
+    /// and if memory is refused, the approval is given back.
     fn hand_on(&self, claimed: Claimed<M::Connection>) {
+        let at = self.now();
         let mut locked = self.lock();
-        if locked.cut_off.try_reserve(1).is_err() {
+        if locked.is_closed() || locked.cut_off.try_reserve(1).is_err() {
+            locked.give_back(at, claimed.approval);
             drop(locked);
-            self.give_back(claimed);
+            self.closing.notify_waiters();
             return;
         }
         locked.cut_off.push(claimed);

@@ -7,28 +7,30 @@ use crate::core::{
     self, unfit, AddAnswer, AtOnce, Checkout, ClaimAnswer, ClosedList, Core, GetKey, Held, Key,
     Moment, ReapAnswer, TryAnswer,
 };
-use crate::errors::AddError;
-use crate::events::{IDLE_TIMEOUT, NO_HANDLE};
+use crate::errors::{AddError, RunError};
+use crate::events::{CLOSED, IDLE_TIMEOUT, RETIRED};
 use crate::figures::State;
 use crate::lock::{Mutex, MutexGuard};
 use crate::managers::ManageConnection;
+use crate::moments::{nanoseconds, Checks};
 use crate::opening::{Claimed, Opening};
 use crate::waiters::{Handed, Waiters};
 use bb8_core::kit::Global;
 use futures_util::stream::{FuturesUnordered, StreamExt};
+use std::any::Any;
 use std::panic::resume_unwind;
 use std::sync::{Arc, Weak};
 use std::task::Waker;
 use std::time::Duration;
 use std::{iter, mem, thread};
 use tokio::runtime::Handle;
-use tokio::time::{interval_at, Instant, Interval, MissedTickBehavior};
+use tokio::sync::Notify;
+use tokio::time::{interval_at, sleep, Instant, Interval, MissedTickBehavior};
 
 /// What the lock protects.
 pub(crate) struct Locked<C> {
     pub(crate) core: Core<C>,
-    /// The connections that the reaper or the last handle closed, until they are dropped outside of
-    /// the lock.
+    /// The connections that a step closed all at once, until they are dropped outside of the lock.
     closed: ClosedList<Held<C>>,
     pub(crate) waiters: Waiters<C>,
     /// Whether connections are left to be opened, because memory, a runtime or a slot was missing.
@@ -50,6 +52,9 @@ pub(crate) struct Counts {
     pub(crate) checks_timed_out: u64,
 }
 
+/// A step that closes idle connections.
+type Sweep<C> = fn(&mut Core<C>, Moment, &mut ClosedList<Held<C>>) -> ReapAnswer;
+
 impl<C> Locked<C> {
     /// Hands an idle connection to a notified get, in the critical section that notified it, so
     /// that no other get comes in between. Returns its waker, and whether connections are to be
@@ -70,34 +75,53 @@ impl<C> Locked<C> {
         self.closed.grow(self.closed.len() + more as usize).is_ok()
     }
 
-    /// Closes connections that are too old or idle for too long. Returns whether connections are to
-    /// be opened. If memory for the list of closed connections is refused, nothing is closed.
-    fn reap(&mut self, at: u64) -> bool {
+    /// Reaps or retires, which closes idle connections. Returns whether connections are to be
+    /// opened. If memory for the list of closed connections is refused, nothing changes.
+    fn sweep(&mut self, at: u64, sweep: Sweep<C>) -> bool {
         if !self.has_room(self.core.idle()) {
             return self.unopened;
         }
-        match self.core.reap_into(Moment(at), &mut self.closed) {
+        match sweep(&mut self.core, Moment(at), &mut self.closed) {
             ReapAnswer::Reaped { grant, .. } => grant.count > 0 || self.unopened,
             ReapAnswer::Ended => self.unopened,
         }
     }
 
-    /// Drops the one handle that the core counts, which closes the idle connections. If memory for
-    /// the list of closed connections is refused, nothing changes.
-    fn leave(&mut self, at: u64) {
-        if self.has_room(self.core.closed_by_leave()) {
-            self.core.leave_into(Moment(at), &mut self.closed);
-        }
+    /// Whether the pool is closed, or has no handle any more, which is the same to the core.
+    #[inline]
+    pub(crate) fn is_closed(&self) -> bool {
+        !self.core.fits_close()
     }
 
-    /// Takes the next connection that the reaper or the last handle closed.
+    /// Closes the pool, and with it the idle connections. Returns false if memory for the list of
+    /// closed connections is refused: then nothing changes.
+    fn close(&mut self, at: u64) -> bool {
+        if self.is_closed() {
+            return true;
+        }
+        let has_room = self.has_room(self.core.idle());
+        if has_room {
+            self.core.close_into(Moment(at), &mut self.closed);
+        }
+        has_room
+    }
+
+    /// Whether no connection is left, none is being dropped, and no attempt is in progress.
+    fn is_empty(&mut self) -> bool {
+        // The moment of the last step is as good as any.
+        let connections = self.core.state(Moment(0)).connections;
+        connections + self.pending == 0 && !self.is_dropping()
+    }
+
+    /// Takes the next connection that a step closed with others.
     pub(crate) fn take_closed(&mut self) -> Held<C> {
         let closed = self.closed.pop()?;
         self.dropping += 1;
         closed.conn
     }
 
-    /// Notes that a closed connection was dropped. Returns whether connections are left to be opened.
+    /// Notes that a closed connection was dropped. Returns whether connections are left to be
+    /// opened.
     pub(crate) fn is_dropped(&mut self) -> bool {
         self.dropping -= 1;
         self.unopened
@@ -131,12 +155,20 @@ pub(crate) struct Shared<M: ManageConnection> {
     pub(crate) settings: Builder<M>,
     pub(crate) manager: M,
     /// The moment from which the core's moments count.
-    started: Instant,
-    /// Whether what comes back needs the moment: an age is limited, so that the core needs to know
-    /// when something becomes idle, or it is to be told how long a get has waited.
-    needs_moment: bool,
+    pub(crate) started: Instant,
+    /// Whether what comes back needs the moment: an age is limited, or fresh connections are not
+    /// checked, so that the core needs to know when something becomes idle; or it is to be told how
+    /// long a get has waited.
+    pub(crate) dates_returns: bool,
+    pub(crate) checks: Checks,
+    /// Whether each connection has an end of its own.
+    pub(crate) has_ends: bool,
+    /// Whether more than the manager looks at returned connections.
+    pub(crate) inspects: bool,
     /// After which wait a get is handed a connection.
     pub(crate) fair_after: Option<u64>,
+    /// Notifies all that wait until the pool is closed, or until nothing of a closed pool is left.
+    pub(crate) closing: Notify,
     locked: Mutex<Locked<M::Connection>>,
 }
 
@@ -146,22 +178,25 @@ impl<M: ManageConnection> Shared<M> {
         self.locked.lock()
     }
 
-    /// The moment of an instant, in nanoseconds.
-    pub(crate) fn moment(&self, instant: Instant) -> u64 {
-        nanoseconds(instant.saturating_duration_since(self.started))
+    /// Gives a new connection an end of its own, if connections have one.
+    pub(crate) fn set_end(&self, conn: &mut Boxed<M::Connection>, at: u64) {
+        if let Some(life) = self.settings.life() {
+            conn.set_end(at.saturating_add(nanoseconds(life)));
+        }
     }
 
-    pub(crate) fn now(&self) -> u64 {
-        self.moment(Instant::now())
+    /// Whether a connection is past its own end.
+    pub(crate) fn is_past_end(&self, conn: &Boxed<M::Connection>) -> bool {
+        self.has_ends && self.now() >= conn.end()
     }
 
-    /// The moment at which a connection comes back.
-    #[inline]
-    pub(crate) fn back_now(&self) -> u64 {
-        if self.needs_moment {
-            self.now()
+    /// Why a get was refused.
+    #[cold]
+    pub(crate) fn refusal(&self) -> RunError<M::Error> {
+        if self.is_closed() {
+            RunError::Closed
         } else {
-            0
+            RunError::Memory
         }
     }
 
@@ -185,6 +220,66 @@ impl<M: ManageConnection> Shared<M> {
             customizer.on_acquire(&mut conn).await?;
         }
         Ok(conn)
+    }
+
+    /// Serves a get at once if connections are not checked, and one is idle.
+    #[inline]
+    pub(crate) fn get_at_once(self: &Arc<Self>) -> Option<Checkout<M::Connection>> {
+        let mut locked = self.lock();
+        if locked.core.idle() == 0 {
+            return None;
+        }
+        // The moment of a get that does not wait does not matter.
+        let AtOnce {
+            key, conn, grant, ..
+        } = locked.core.serve_at_once(Moment(0))?;
+        let due = grant.count > 0 || locked.unopened;
+        drop(locked);
+        if due {
+            self.open();
+        }
+        Some(Checkout::new(key, conn))
+    }
+
+    pub(crate) fn is_closed(&self) -> bool {
+        self.lock().is_closed()
+    }
+
+    /// Closes the pool: its idle connections are dropped, and its attempts and waiting gets end.
+    /// Returns false if memory to list the connections is refused: then nothing changes.
+    pub(crate) fn close(&self) -> bool {
+        let at = self.now();
+        let mut locked = self.lock();
+        let is_closed = locked.close(at);
+        if is_closed {
+            let wakers = locked.waiters.close();
+            drop(locked);
+            wakers.for_each(Waker::wake);
+            self.closing.notify_waiters();
+            resume(self.drop_closed(CLOSED));
+        }
+        is_closed
+    }
+
+    /// Resolves once the condition holds. It can begin to hold only before `closing` notifies.
+    async fn reached(&self, condition: fn(&mut Locked<M::Connection>) -> bool) {
+        loop {
+            let notified = self.closing.notified();
+            if condition(&mut self.lock()) {
+                return;
+            }
+            notified.await;
+        }
+    }
+
+    /// Resolves once the pool is closed.
+    pub(crate) async fn until_closed(&self) {
+        self.reached(|locked| locked.is_closed()).await;
+    }
+
+    /// Resolves once nothing of a closed pool is left.
+    pub(crate) async fn until_empty(&self) {
+        self.reached(Locked::is_empty).await;
     }
 
     /// Opens connections for all approvals whose attempts were cut off, and for all that are
@@ -213,28 +308,25 @@ impl<M: ManageConnection> Shared<M> {
     }
 }
 
-pub(crate) fn nanoseconds(span: Duration) -> u64 {
-    let seconds = span.as_secs().saturating_mul(1_000_000_000);
-    seconds.saturating_add(u64::from(span.subsec_nanos()))
-}
-
-/// The one handle that the core counts. All handles of the pool share it. When it is dropped, which
-/// happens once, it makes the core's `leave`, which requires a handle that is alive and closes the
-/// idle connections. If memory to list them is refused, they are dropped with the last connection
-/// attempt in progress.
+/// The one handle that the core counts. All handles of the pool share it. When it is dropped, the
+/// pool is closed, unless it is already. If memory to list the idle connections is refused, they
+/// are dropped with the last connection attempt in progress.
 struct Owner<M: ManageConnection> {
     shared: Arc<Shared<M>>,
 }
 
 impl<M: ManageConnection> Drop for Owner<M> {
     fn drop(&mut self) {
-        let at = self.shared.now();
-        self.shared.lock().leave(at);
-        match self.shared.drop_closed(NO_HANDLE) {
-            // Beside another panic it would end the process.
-            Err(panicked) if !thread::panicking() => resume_unwind(panicked),
-            _ => {}
-        }
+        self.shared.close();
+    }
+}
+
+/// Goes on after destructors of connections.
+fn resume(dropped: Result<(), Box<dyn Any + Send>>) {
+    match dropped {
+        // Beside another panic it would end the process.
+        Err(panicked) if !thread::panicking() => resume_unwind(panicked),
+        _ => {}
     }
 }
 
@@ -256,14 +348,19 @@ impl<M: ManageConnection> PoolInner<M> {
         let core = core::core(&settings);
         let started = Instant::now();
         let hands_off = settings.fair_after.is_some();
-        let has_limits = settings.max_lifetime.is_some() || settings.idle_timeout.is_some();
+        let has_limits = settings.has_limits();
+        let checks = settings.checks();
         let rate = settings.reaper_rate;
         let shared = Arc::new(Shared {
-            needs_moment: has_limits || hands_off,
+            dates_returns: has_limits || hands_off || checks == Checks::Stale,
+            checks,
+            has_ends: settings.has_ends(),
+            inspects: settings.has_ends() || settings.connection_customizer.is_some(),
             fair_after: settings.fair_after.map(nanoseconds),
             settings,
             manager,
             started,
+            closing: Notify::new(),
             locked: Mutex::new(Locked {
                 core,
                 closed: ClosedList::new(Global),
@@ -325,32 +422,17 @@ impl<M: ManageConnection> PoolInner<M> {
         self.shared().open();
     }
 
-    /// Serves a get at once if a connection is idle and connections are not checked.
-    #[inline]
-    pub(crate) fn get_at_once(&self) -> Option<Checkout<M::Connection>> {
-        let shared = self.shared();
-        if shared.settings.test_on_check_out {
-            return None;
-        }
-        let mut locked = shared.lock();
-        if locked.core.idle() == 0 {
-            return None;
-        }
-        // The moment of a get that does not wait does not matter.
-        let AtOnce {
-            key, conn, grant, ..
-        } = locked.core.serve_at_once(Moment(0))?;
-        let due = grant.count > 0 || locked.unopened;
-        drop(locked);
-        if due {
-            shared.open();
-        }
-        Some(Checkout::new(key, conn))
-    }
-
     #[inline]
     pub(crate) fn put_back(&self, checkout: Checkout<M::Connection>) {
-        self.shared().put_back(checkout);
+        self.shared().release(checkout);
+    }
+
+    /// Closes the pool, and resolves once nothing of it is left.
+    pub(crate) async fn close(&self) {
+        while !self.shared().close() {
+            sleep(Duration::from_millis(1)).await;
+        }
+        self.shared().until_empty().await;
     }
 
     pub(crate) fn add(&self, mut conn: M::Connection) -> Result<(), AddError<M::Connection>> {
@@ -363,10 +445,12 @@ impl<M: ManageConnection> PoolInner<M> {
                 AddError::Withheld(conn)
             });
         };
-        let conn = Some(reserved.fill(conn));
+        let mut conn = reserved.fill(conn);
         let at = shared.now();
+        shared.set_end(&mut conn, at);
         let mut locked = shared.lock();
-        let (refused, conn): (fn(_) -> _, _) = match locked.core.add(Moment(at), conn, broken) {
+        let (refused, conn): (fn(_) -> _, _) = match locked.core.add(Moment(at), Some(conn), broken)
+        {
             Ok(AddAnswer::Added(_, notified)) => {
                 locked.counts.added += 1;
                 shared.settle(locked, at, core::kept(notified));
@@ -375,7 +459,9 @@ impl<M: ManageConnection> PoolInner<M> {
             Ok(AddAnswer::Broken(conn)) => (AddError::Broken, conn),
             Ok(AddAnswer::NoCapacity(conn)) => (AddError::NoCapacity, conn),
             Ok(AddAnswer::Withheld(conn)) => (AddError::Withheld, conn),
-            Err(_) => unfit(),
+            // The pool is closed.
+            Err(conn) if broken => (AddError::Broken, conn),
+            Err(conn) => (AddError::NoCapacity, conn),
         };
         drop(locked);
         match conn {
@@ -390,25 +476,41 @@ impl<M: ManageConnection> PoolInner<M> {
 
     /// Where memory to list what is closed is refused, the next reap closes it.
     pub(crate) fn reap(&self) {
+        // The panic hook has reported panics there. They do not end the reaper.
+        let _panicked = self.sweep(Core::reap_into, IDLE_TIMEOUT);
+    }
+
+    /// Where memory to list what is closed is refused, nothing changes.
+    pub(crate) fn retire(&self) {
+        resume(self.sweep(Core::retire_into, RETIRED));
+    }
+
+    /// Reaps or retires, drops what is closed, and opens what is to be opened. Returns the first
+    /// panic of a destructor.
+    fn sweep(&self, sweep: Sweep<M::Connection>, reason: &str) -> Result<(), Box<dyn Any + Send>> {
         let shared = self.shared();
         let at = shared.now();
-        let due = shared.lock().reap(at);
-        // The panic hook has reported panics there. They do not end the reaper.
-        let _panicked = shared.drop_closed(IDLE_TIMEOUT);
+        let due = shared.lock().sweep(at, sweep);
+        let dropped = shared.drop_closed(reason);
         if due || shared.lock().unopened {
             shared.open();
         }
+        dropped
     }
 }
 
-/// Reaps at each tick, as long as the pool has a handle.
+/// Reaps at each tick, until the pool is closed.
 async fn reap<M: ManageConnection>(mut ticks: Interval, owner: Weak<Owner<M>>) {
     loop {
         ticks.tick().await;
         let Some(owner) = owner.upgrade() else {
             return;
         };
-        PoolInner { owner }.reap();
+        let pool = PoolInner { owner };
+        if pool.shared().is_closed() {
+            return;
+        }
+        pool.reap();
     }
 }
 

@@ -1,9 +1,10 @@
-//! How connections are returned, and what follows a step: which get is woken or handed a connection,
-//! what is opened, what is dropped. User code (the manager, the destructors of connections, wakers)
-//! runs outside of the lock, and may panic.
+//! How connections are returned, and what follows a step: which get is woken or handed a
+//! connection, what is opened, what is dropped. User code (the manager, the destructors of
+//! connections, wakers) runs outside of the lock, and may panic.
 
+use crate::boxed::Boxed;
 use crate::core::{after, After, Checkout, Core, GetKey, Held, Key, Moment};
-use crate::events::{FAILED_CHECK, MAX_LIFETIME, NO_HANDLE};
+use crate::events::{FAILED_CHECK, MAX_LIFETIME, NOT_KEPT};
 use crate::lock::MutexGuard;
 use crate::managers::ManageConnection;
 use crate::pool::{Locked, Shared};
@@ -33,8 +34,8 @@ pub(crate) trait HandsIn<C>:
 
 impl<C, F: FnOnce(&mut Core<C>, Moment, Key, Held<C>, bool) -> Option<After<C>>> HandsIn<C> for F {}
 
-/// The step that reports the return of a checked-out connection to the core. If this is dropped, the
-/// step is made without the connection, which is gone: otherwise its slot would leak.
+/// The step that reports the return of a checked-out connection to the core. If this is dropped,
+/// the step is made without the connection, which is gone: otherwise its slot would leak.
 struct Owed<'a, M: ManageConnection, S: HandsIn<M::Connection>> {
     shared: &'a Arc<Shared<M>>,
     key: Key,
@@ -61,22 +62,38 @@ impl<M: ManageConnection, S: HandsIn<M::Connection>> Drop for Owed<'_, M, S> {
     #[cold]
     fn drop(&mut self) {
         self.tell(None);
+        self.shared.closing.notify_waiters();
     }
 }
 
 /// What becomes of a connection that is returned.
 #[derive(Clone, Copy, PartialEq, Eq)]
 pub(crate) enum Fate {
-    /// It is kept unless it is broken.
+    /// A guard returns it: it is kept unless it is broken, the customizer does not keep it, or it
+    /// is past its own end.
+    Released,
+    /// No guard had it: it is kept unless it is broken.
     Kept,
     /// It is closed, as its check failed.
     Invalid,
+    /// It is closed, as it is past its own end.
+    TooOld,
     /// It is closed as broken. Its check was cut off, so nobody knows what the server sends next.
     CutOff,
 }
 
 impl<M: ManageConnection> Shared<M> {
-    /// Returns a checked-out connection to the pool.
+    /// Returns a connection that a guard had.
+    #[inline]
+    pub(crate) fn release(self: &Arc<Self>, checkout: Checkout<M::Connection>) {
+        if self.inspects {
+            self.inspect(checkout);
+        } else {
+            self.put_back(checkout);
+        }
+    }
+
+    /// Returns a connection that no guard had, or that nothing but the manager looks at.
     #[inline]
     pub(crate) fn put_back(self: &Arc<Self>, checkout: Checkout<M::Connection>) {
         self.take_back(
@@ -87,9 +104,20 @@ impl<M: ManageConnection> Shared<M> {
         );
     }
 
-    /// Returns a checked-out connection by a step, at the moment that the clock returns. If it is not
-    /// kept, or if asking the manager whether it is broken panics, it is dropped before the core
-    /// frees its slot.
+    /// Returns a connection that a guard had, after a look at it.
+    #[inline(never)]
+    fn inspect(self: &Arc<Self>, checkout: Checkout<M::Connection>) {
+        self.take_back(
+            checkout,
+            Fate::Released,
+            Shared::back_now,
+            |core, at, key, conn, broken| after(core.put_back(at, key, conn, broken)),
+        );
+    }
+
+    /// Returns a checked-out connection by a step, at the moment that the clock returns. If it is
+    /// not kept, or if the manager or the customizer panics, it is dropped before the core frees
+    /// its slot, and counts as broken.
     #[inline]
     pub(crate) fn take_back(
         self: &Arc<Self>,
@@ -107,14 +135,45 @@ impl<M: ManageConnection> Shared<M> {
             step: Some(step),
         };
         let mut conn = checkout.conn;
-        owed.broken = fate == Fate::CutOff || self.manager.has_broken(&mut conn);
-        if fate == Fate::Kept && !owed.broken {
-            ManuallyDrop::new(owed).tell(Some(conn));
-        } else if owed.broken {
-            self.broken(&conn);
-        } else {
-            self.closed(&conn, FAILED_CHECK);
+        let is_broken = fate == Fate::CutOff || self.manager.has_broken(&mut conn);
+        owed.broken = is_broken;
+        let reason = match fate {
+            Fate::Invalid => Some(FAILED_CHECK),
+            Fate::TooOld => Some(MAX_LIFETIME),
+            Fate::Released if !is_broken => {
+                // It counts as broken if this panics, too.
+                owed.broken = true;
+                let reason = self.inspected(&mut conn);
+                owed.broken = reason.is_some();
+                reason
+            }
+            _ => None,
+        };
+        match reason {
+            _ if is_broken => self.broken(&conn),
+            Some(reason) => self.closed(&conn, reason),
+            None => ManuallyDrop::new(owed).tell(Some(conn)),
         }
+    }
+
+    /// Returns why a connection is closed that a guard returns and that is not broken.
+    fn inspected(&self, conn: &mut Boxed<M::Connection>) -> Option<&'static str> {
+        let customizer = &self.settings.connection_customizer;
+        if customizer.as_ref().is_some_and(|it| !it.on_release(conn)) {
+            return Some(NOT_KEPT);
+        }
+        self.is_past_end(conn).then_some(MAX_LIFETIME)
+    }
+
+    /// Takes a connection that a guard had out of the pool.
+    pub(crate) fn detach(self: &Arc<Self>, checkout: Checkout<M::Connection>) -> M::Connection {
+        let at = self.back_now();
+        let mut locked = self.lock();
+        let detached = locked.core.detach(Moment(at), checkout.key);
+        self.settle(locked, at, after(detached));
+        self.closing.notify_waiters();
+        self.detached(&checkout.conn);
+        checkout.conn.into_inner()
     }
 
     /// Goes on after a step at this moment: releases the lock, drops the closed connection, starts
@@ -149,15 +208,14 @@ impl<M: ManageConnection> Shared<M> {
                 due |= more;
             }
         }
-        let is_alive = locked.core.fits_join();
         drop(locked);
         if let Some(conn) = &closed {
-            self.closed(conn, if is_alive { MAX_LIFETIME } else { NO_HANDLE });
+            self.ended(conn);
         }
-        let is_closed = closed.is_some();
+        let drops = closed.is_some();
         let _last = Finally(Some(|| {
-            if is_closed {
-                due |= self.lock().is_dropped();
+            if drops {
+                due |= self.is_dropped();
             }
             if due {
                 self.open();
@@ -169,10 +227,10 @@ impl<M: ManageConnection> Shared<M> {
         drop(closed);
     }
 
-    /// Returns the waker of a notified get, and whether connections are to be opened. In a fair pool
-    /// the get is handed an idle connection. If none is idle it has to try by itself, since the
-    /// connection that it then requests is opened in the runtime of its task. A get that is not here
-    /// had no memory to wait: it gives up, which passes its notification on.
+    /// Returns the waker of a notified get, and whether connections are to be opened. In a fair
+    /// pool the get is handed an idle connection. If none is idle it has to try by itself, since
+    /// the connection that it then requests is opened in the runtime of its task. A get that is not
+    /// here had no memory to wait: it gives up, which passes its notification on.
     #[inline]
     fn notify(
         &self,
@@ -191,18 +249,26 @@ impl<M: ManageConnection> Shared<M> {
         }
     }
 
-    /// Drops the connections that the reaper or the last handle closed, one by one and outside of
-    /// the lock: a destructor may take long, and may call the pool. If some of them panic, the others
-    /// run all the same, and the first panic is returned.
+    /// Drops the connections that a step closed all at once, one by one and outside of the lock: a
+    /// destructor may take long, and may call the pool. If some of them panic, the others run all
+    /// the same, and the first panic is returned.
     pub(crate) fn drop_closed(&self, reason: &str) -> Result<(), Box<dyn Any + Send>> {
         let next = || self.lock().take_closed();
         let mut result = Ok(());
         while let Some(conn) = next() {
             self.closed(&conn, reason);
             let dropped = catch_unwind(AssertUnwindSafe(|| drop(conn)));
-            self.lock().is_dropped();
+            self.is_dropped();
             result = result.and(dropped);
         }
         result
+    }
+
+    /// Notes that a closed connection was dropped. Returns whether connections are left to be
+    /// opened.
+    fn is_dropped(&self) -> bool {
+        let due = self.lock().is_dropped();
+        self.closing.notify_waiters();
+        due
     }
 }

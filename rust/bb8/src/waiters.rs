@@ -6,6 +6,7 @@
 
 use crate::core::{Checkout, GetKey};
 use std::collections::HashMap;
+use std::mem;
 use std::task::Waker;
 
 /// A connection that was handed to a waiting get, until the get is polled.
@@ -30,6 +31,8 @@ pub(crate) struct Waiters<C> {
     /// By their number.
     handed: HashMap<u64, Handed<C>>,
     hands_off: bool,
+    /// Whether gets may still wait.
+    is_open: bool,
 }
 
 impl<C> Waiters<C> {
@@ -43,11 +46,12 @@ impl<C> Waiters<C> {
             count: 0,
             handed: HashMap::new(),
             hands_off,
+            is_open: true,
         }
     }
 
-    /// Makes a get wait that does not wait here yet, and takes its waker. Returns false if memory is
-    /// refused.
+    /// Makes a get wait that does not wait here yet, and takes its waker. Returns false if memory
+    /// is refused, or if no get may wait any more.
     #[inline]
     pub(crate) fn wait(&mut self, get: GetKey, since: u64, waker: &mut Option<Waker>) -> bool {
         if (self.hands_off || get.place >= self.waiting.len()) && !self.make_room(get.place) {
@@ -66,6 +70,9 @@ impl<C> Waiters<C> {
     /// Reserves memory for a get at this index, and for the hand-off to it.
     #[cold]
     fn make_room(&mut self, index: usize) -> bool {
+        if !self.is_open {
+            return false;
+        }
         if self.hands_off && self.handed.try_reserve(self.count + 1).is_err() {
             return false;
         }
@@ -121,6 +128,15 @@ impl<C> Waiters<C> {
     pub(crate) fn hand_off(&mut self, get: GetKey, handed: Handed<C>) -> Option<Waker> {
         self.handed.insert(get.number, handed);
         self.remove(get)
+    }
+
+    /// Removes all waiting gets, and returns their wakers. From now on none may wait. Those that
+    /// were handed a connection keep it.
+    pub(crate) fn close(&mut self) -> impl Iterator<Item = Waker> {
+        self.is_open = false;
+        self.count = 0;
+        let waiting = mem::take(&mut self.waiting);
+        waiting.into_iter().flatten().filter_map(|it| it.waker)
     }
 
     /// Takes the wakers of all waiting gets, or none if memory for them is refused.

@@ -1,6 +1,6 @@
 //! What a pool reports by `tracing`.
 
-use bb8::{ManageConnection, Pool};
+use bb8::{CustomizeConnection, ManageConnection, Pool, PooledConnection};
 use std::fmt::{Debug, Write};
 use std::sync::atomic::{AtomicU32, Ordering::SeqCst};
 use std::sync::{Arc, Mutex};
@@ -140,6 +140,82 @@ async fn each_failure_and_each_closing_is_reported_with_its_cause() {
     sleep(Duration::from_secs(65)).await;
     let lines = log.take();
     assert!(lines[1].contains(r#"reason="idle_timeout""#), "{lines:?}");
+}
+
+/// Keeps no connection.
+#[derive(Debug)]
+struct Once;
+
+impl CustomizeConnection<(), Refused> for Once {
+    fn on_release(&self, (): &mut ()) -> bool {
+        false
+    }
+}
+
+#[tokio::test(start_paused = true)]
+async fn a_connection_closed_by_the_customizer_or_by_its_own_end_is_reported_as_such() {
+    let log = Log::default();
+    let _subscribed = tracing::subscriber::set_default(log.clone());
+    let second = Duration::from_secs(1);
+    let reason = r#"DEBUG message=connection closed pool="bb8" reason="#;
+    // Each end is past with a probability of 0.99, so one of eight is.
+    let builder = || Pool::builder().min_idle(8).max_size(8).idle_timeout(None);
+    let builder = || builder().reaper_rate(1000 * second);
+    let aging = builder()
+        .max_lifetime(100 * second)
+        .max_lifetime_jitter(1.0);
+    let pool = aging.build(Manager(Arc::default())).await.unwrap();
+    log.take();
+    sleep(99 * second).await;
+    drop(pool.get().await.unwrap());
+    let lines = log.take();
+    assert!(
+        lines.contains(&format!("{reason}\"max_lifetime\" age=99s")),
+        "{lines:?}"
+    );
+
+    let picky = builder().connection_customizer(Box::new(Once));
+    let pool = picky.build(Manager(Arc::default())).await.unwrap();
+    log.take();
+    drop(pool.get().await.unwrap());
+    let lines = log.take();
+    assert_eq!(
+        lines,
+        [format!("{reason}\"on_release returned false\" age=0ns")]
+    );
+}
+
+#[tokio::test(start_paused = true)]
+async fn connections_that_are_retired_detached_or_of_a_closed_pool_are_reported_as_such() {
+    let log = Log::default();
+    let _subscribed = tracing::subscriber::set_default(log.clone());
+    let manager = || Manager(Arc::default());
+    let pool = Pool::builder().max_size(2).build(manager()).await.unwrap();
+    let two = || async { (pool.get().await.unwrap(), pool.get().await.unwrap()) };
+    let closed = |reason| {
+        let line = r#"DEBUG message=connection closed pool="bb8" reason="#;
+        format!("{line}\"{reason}\" age=0ns")
+    };
+
+    let (held, idle) = two().await;
+    drop(idle);
+    log.take();
+    pool.retire();
+    drop(held);
+    assert_eq!(log.take(), [closed("retired"), closed("retired")]);
+
+    PooledConnection::detach(pool.get().await.unwrap());
+    let lines = log.take();
+    let line = r#"DEBUG message=connection detached pool="bb8" age=0ns"#;
+    assert_eq!(lines[1], line);
+
+    let (held, idle) = two().await;
+    drop(idle);
+    log.take();
+    pool.close_now();
+    drop(held);
+    let reason = "the pool is closed";
+    assert_eq!(log.take(), [closed(reason), closed(reason)]);
 }
 
 #[tokio::test(start_paused = true)]

@@ -2,14 +2,14 @@
 //! drop, wakers that own what they wake, runtimes that end, futures and guards that are forgotten.
 //! No room is lost but with what is forgotten, and no get that waits is.
 
-use bb8::{ErrorSink, ManageConnection, Pool, PooledConnection, RunError};
+use bb8::{CustomizeConnection, ErrorSink, ManageConnection, Pool, PooledConnection, RunError};
 use futures_util::future::join_all;
 use std::future::{pending, Future};
 use std::panic::{catch_unwind, AssertUnwindSafe};
 use std::pin::Pin;
 use std::sync::atomic::{AtomicU32, Ordering::SeqCst};
 use std::sync::mpsc::channel;
-use std::sync::{Arc, Mutex};
+use std::sync::{Arc, Mutex, OnceLock};
 use std::task::{Context, Wake, Waker};
 use std::thread;
 use std::time::Duration;
@@ -33,14 +33,17 @@ enum Fault {
     AskingPanics,
     DropPanics,
     SinkPanics,
+    ReleasePanics,
+    IsNotKept,
 }
 
-/// The faults of now, and how often one was to be opened, was, and was dropped so far.
+/// The faults of now, and how often one was to be opened, was, was released and was dropped so far.
 #[derive(Debug, Default)]
 struct World {
     faults: AtomicU32,
     asked: AtomicU32,
     opened: AtomicU32,
+    released: AtomicU32,
     dropped: AtomicU32,
 }
 
@@ -143,6 +146,21 @@ impl ErrorSink<Failed> for Sink {
     }
 }
 
+/// Counts the released connections, and asks the pool for its state meanwhile.
+#[derive(Debug)]
+struct Customizer(Arc<World>, Arc<OnceLock<Pool<Manager>>>);
+
+impl CustomizeConnection<Connection, Failed> for Customizer {
+    fn on_release(&self, _: &mut Connection) -> bool {
+        self.0.released.fetch_add(1, SeqCst);
+        if let Some(pool) = self.1.get() {
+            assert_eq!(pool.state().connections, 1);
+        }
+        self.0.may_panic(Fault::ReleasePanics);
+        !self.0.has(Fault::IsNotKept)
+    }
+}
+
 type Guard = PooledConnection<'static, Manager>;
 type Got = Result<Guard, RunError<Failed>>;
 
@@ -163,6 +181,17 @@ async fn pool(world: &Arc<World>, size: u32) -> Pool<Manager> {
 async fn checking(world: &Arc<World>) -> Pool<Manager> {
     let builder = builder(world, 1).min_idle(1).test_on_check_out(true);
     builder.build(Manager(world.clone())).await.unwrap()
+}
+
+/// A pool of one connection, which is open, and with a customizer that knows the pool.
+async fn customized(world: &Arc<World>, fair_after: Option<Duration>) -> Pool<Manager> {
+    let known: Arc<OnceLock<_>> = Arc::default();
+    let customizer = Customizer(world.clone(), known.clone());
+    let builder = builder(world, 1).min_idle(1).fair_after(fair_after);
+    let builder = builder.connection_customizer(Box::new(customizer));
+    let pool = builder.build(Manager(world.clone())).await.unwrap();
+    known.set(pool.clone()).unwrap();
+    pool
 }
 
 /// Connections that the pool counts, and those that are there.
@@ -332,8 +361,9 @@ async fn a_manager_that_panics_keeps_no_room() {
         let pool = pool(&world, 1).await;
         world.set(faults);
         assert!(!serves(&pool).await, "{faults:?}");
-        // It is not asked again for the same connection.
-        assert_eq!(world.asked.load(SeqCst), 1, "{faults:?}");
+        // It is not asked again for the same connection. For the get, which waits for a second, it
+        // is asked for others after the pauses of 0.4 and 0.5 s.
+        assert_eq!(world.asked.load(SeqCst), 3, "{faults:?}");
         world.mend();
         assert_eq!(counts(&pool, &world), (0, 0), "{faults:?}");
         assert!(serves(&pool).await, "{faults:?}");
@@ -354,6 +384,74 @@ async fn a_check_that_panics_keeps_no_room() {
         assert!(serves(&pool).await, "{faults:?}");
         assert_eq!(pool.state().statistics.pending_gets(), 0, "{faults:?}");
     }
+}
+
+#[tokio::test(start_paused = true)]
+async fn a_connection_that_the_customizer_does_not_keep_is_closed() {
+    let world = Arc::default();
+    let pool = customized(&world, None).await;
+    drop(pool.get().await.unwrap());
+    assert_eq!(
+        (counts(&pool, &world), world.dropped.load(SeqCst)),
+        ((1, 1), 0)
+    );
+    for fault in [Fault::IsNotKept, Fault::ReleasePanics] {
+        let before = pool.state().statistics;
+        let (released, dropped) = (world.released.load(SeqCst), world.dropped.load(SeqCst));
+        let conn = pool.get_owned().await.unwrap();
+        let waiting = tokio::spawn({
+            let pool = pool.clone();
+            async move { pool.get().await.is_ok() }
+        });
+        yield_now().await;
+        world.set(&[fault]);
+        assert_eq!(panics(conn), matches!(fault, Fault::ReleasePanics));
+        world.mend();
+        let waited = timeout(Duration::from_millis(1), waiting).await;
+        assert!(waited.unwrap().unwrap(), "{fault:?}");
+        // Those of the waiting get, too.
+        assert_eq!(world.released.load(SeqCst), released + 2);
+        assert_eq!(world.dropped.load(SeqCst), dropped + 1);
+        assert_eq!(counts(&pool, &world), (1, 1), "{fault:?}");
+        let after = pool.state().statistics;
+        let broken = after.connections_closed_broken - before.connections_closed_broken;
+        let closed = after.connections_closed - before.connections_closed;
+        assert_eq!(
+            (broken, closed, after.pending_gets()),
+            (1, 1, 0),
+            "{fault:?}"
+        );
+    }
+}
+
+#[tokio::test(start_paused = true)]
+async fn the_customizer_looks_at_no_connection_that_is_broken_or_had_no_guard() {
+    let world = Arc::default();
+    let pool = customized(&world, Some(Duration::ZERO)).await;
+    let conn = pool.get().await.unwrap();
+    world.set(&[Fault::IsBroken]);
+    drop(conn);
+    world.mend();
+    assert_eq!(
+        (world.released.load(SeqCst), world.dropped.load(SeqCst)),
+        (0, 1)
+    );
+    let conn = pool.get().await.unwrap();
+    let mut handed = Box::pin(pool.get());
+    poll_by(
+        &Waker::from(Arc::new(Task(Mutex::default()))),
+        handed.as_mut(),
+    );
+    drop(conn);
+    assert_eq!(
+        (world.released.load(SeqCst), pool.state().idle_connections),
+        (1, 0)
+    );
+    drop(handed);
+    assert_eq!(
+        (world.released.load(SeqCst), pool.state().idle_connections),
+        (1, 1)
+    );
 }
 
 #[tokio::test(start_paused = true)]
@@ -397,8 +495,7 @@ async fn nothing_is_opened_again_for_a_pool_that_is_gone() {
     sleep(Duration::from_millis(100)).await;
     drop(pool);
     sleep(Duration::from_secs(5)).await;
-    // The second try was due when the pool went.
-    assert_eq!(world.asked.load(SeqCst), 2);
+    assert_eq!(world.asked.load(SeqCst), 1);
 }
 
 #[tokio::test]

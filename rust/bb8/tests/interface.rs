@@ -1,5 +1,5 @@
-//! The interface of bb8 0.9.1 as its users meet it: each signature, the settings where none is said,
-//! what is printed, and what panics.
+//! The interface of bb8 0.9.1 as its users meet it: each signature, the settings where none is
+//! said, what is printed, and what panics.
 
 use bb8::{
     AddError, Builder, CustomizeConnection, ErrorSink, ManageConnection, Pool, PooledConnection,
@@ -140,6 +140,17 @@ fn panics(with: fn()) -> Option<String> {
 }
 
 #[test]
+fn errors_of_this_crate_print() {
+    for (error, text) in [
+        (RunError::Memory, "No memory in bb8"),
+        (RunError::Exhausted, "Numbers used up in bb8"),
+        (RunError::Closed, "Pool closed in bb8"),
+    ] {
+        assert_eq!(RunError::<io::Error>::to_string(&error), text);
+    }
+}
+
+#[test]
 fn unlawful_settings_panic_as_the_originals() {
     let cases: [(fn(), &str); 6] = [
         (
@@ -181,6 +192,85 @@ fn unlawful_settings_panic_as_the_originals() {
             "{text}: {told:?}"
         );
     }
+}
+
+#[test]
+fn other_unlawful_settings_name_themselves() {
+    let jitter = "max_lifetime_jitter must be from 0 to 1!";
+    let cases: [(fn(), &str); 6] = [
+        (
+            || drop(Builder::<Numbers>::new().connect_timeout(Duration::ZERO)),
+            "connect_timeout must be greater than zero!",
+        ),
+        (
+            || drop(Builder::<Numbers>::new().test_timeout(Duration::ZERO)),
+            "test_timeout must be greater than zero!",
+        ),
+        (
+            || {
+                let builder = Builder::new().reaper_rate(Duration::ZERO);
+                drop(builder.build_unchecked(Numbers));
+            },
+            "reaper_rate must be greater than zero!",
+        ),
+        (
+            || drop(Builder::<Numbers>::new().max_lifetime_jitter(-0.1)),
+            jitter,
+        ),
+        (
+            || drop(Builder::<Numbers>::new().max_lifetime_jitter(1.1)),
+            jitter,
+        ),
+        (
+            || drop(Builder::<Numbers>::new().max_lifetime_jitter(f64::NAN)),
+            jitter,
+        ),
+    ];
+    for (case, text) in cases {
+        assert_eq!(panics(case).as_deref(), Some(text));
+    }
+}
+
+/// Without a limit there is no reaper.
+#[tokio::test]
+async fn a_pool_without_limits_takes_any_reaper_rate() {
+    let builder = Pool::builder().max_lifetime(None).idle_timeout(None);
+    let pool = builder.reaper_rate(Duration::ZERO).build(Numbers).await;
+    assert!(pool.unwrap().get().await.is_ok());
+}
+
+#[tokio::test]
+async fn a_pool_prints_its_name_its_state_and_its_settings() {
+    let builder = Pool::builder().name("orders").max_size(7).min_idle(2);
+    let pool = builder
+        .max_lifetime_jitter(0.5)
+        .build(Numbers)
+        .await
+        .unwrap();
+    let printed = format!("{pool:?}");
+    let state =
+        "Pool { name: Some(\"orders\"), state: State { connections: 2, idle_connections: 2, \
+                 pending_connections: 0, statistics: Statistics { get_started: 0,";
+    assert!(printed.starts_with(state), "{printed}");
+    for part in [
+        "}, config: Config { max_size: 7, min_idle: Some(2),",
+        "max_lifetime_jitter: 0.5",
+    ] {
+        assert!(printed.contains(part), "{printed}");
+    }
+    assert!(!printed.contains("0x"), "{printed}");
+}
+
+/// The longest lifetime with the greatest jitter is a lifetime.
+#[tokio::test]
+async fn the_longest_lifetime_is_shortened() {
+    let builder = Pool::builder().max_lifetime(Duration::MAX);
+    let pool = builder
+        .max_lifetime_jitter(1.0)
+        .build(Numbers)
+        .await
+        .unwrap();
+    assert_eq!(*pool.get().await.unwrap(), 1);
 }
 
 /// Durations that no clock reaches are as no limit.

@@ -80,8 +80,8 @@ impl ManageConnection for Manager {
 /// Whether every connection is accounted for.
 fn balances(state: &State) -> bool {
     let counts = &state.statistics;
-    counts.connections_created + counts.connections_added
-        == counts.connections_closed + u64::from(state.connections)
+    let ended = counts.connections_closed + counts.connections_detached;
+    counts.connections_created + counts.connections_added == ended + u64::from(state.connections)
 }
 
 /// Gets at once: how many were served, and the longest time of one.

@@ -1,5 +1,6 @@
-//! Which traits the public types have: those of bb8 0.9.1, asserted by the compiler. What it has not
-//! and this crate has (figures that compare and copy, `AddError` that prints) is not asserted to lack.
+//! Which traits the public types have: those of bb8 0.9.1, asserted by the compiler. What it has
+//! not and this crate has (figures that compare and copy, `AddError` that prints) is not asserted
+//! to lack.
 
 use bb8::{
     AddError, Builder, CustomizeConnection, ErrorSink, ManageConnection, NopErrorSink, Pool,

@@ -1,5 +1,5 @@
 //! What several steps decide or do in common.
-ghost use Rattle.std.specs.Prelude.{◌≡◌, ℕ, ◌+◌, ◌<◌, ◌≤◌, cond, ltb, slice_get, true, false, None, Some};
+ghost use Rattle.std.specs.Prelude.{◌≡◌, ℕ, ◌+◌, ◌-◌, ◌<◌, ◌≤◌, ◌||◌, cond, ltb, slice_get, true, false, None, Some};
 ghost use Rattle.std.specs.FinMap as map;
 ghost use Rattle.std.specs.Option.{ForSome, option_map};
 ghost use Rattle.std.specs.Duration.{as_nanos};
@@ -64,7 +64,8 @@ pub(super) fn want<C: Drop>(config: &Config, handles: u64, records: &Records<C>)
     }
 }
 
-/// How many approvals are due to a get that waits: one is asked for where gets outnumber open approvals.
+/// How many approvals are due to a get that waits: one is asked for where gets outnumber open
+/// approvals.
 pub(super) fn due_waiting<C: Drop>(
     config: &Config,
     handles: u64,
@@ -78,6 +79,21 @@ pub(super) fn due_waiting<C: Drop>(
     due(config, handles, records.used(), asked)
 }
 
+/// How many approvals are due to so many waiters that were not notified: as many are asked for as
+/// have no open approval.
+pub(super) fn due_asked<C: Drop>(
+    config: &Config,
+    handles: u64,
+    records: &Records<C>,
+    waiting: u64,
+) -> u64
+    ensures { result ≡ grants.due (settings_of config.now) handles
+        (records.now.conns + records.now.approved) (waiting - records.now.approved) }
+{
+    let asked = waiting.saturating_sub(records.approved());
+    due(config, handles, records.used(), asked)
+}
+
 /// The greatest age, in nanoseconds, at which this limit is not reached.
 pub(super) fn greatest_age(limit: Option<Duration>) -> u64
     requires { ForSome limit (λ l. 0 < as_nanos l) }
@@ -87,6 +103,23 @@ pub(super) fn greatest_age(limit: Option<Duration>) -> u64
         None => u64::MAX,
         Some(limit) => (limit.as_nanos() - 1).min(u64::MAX as u128) as u64,
     }
+}
+
+/// What a reap holds to that ends all idle connections: each has lived too long.
+pub(super) fn retiring(config: &Config) -> Config
+    ensures { settings_of result ≡ record (settings_of config.now) { max_lifetime = Some 0 } }
+{
+    let mut all = *config;
+    all.max_lifetime = Some(Duration::from_nanos(0));
+    all
+}
+
+/// Whether one of both holds.
+#[inline]
+pub(super) fn either(a: bool, b: bool) -> bool
+    ensures { result ≡ (a || b) }
+{
+    a || b
 }
 
 /// Whether a connection of this birth has lived too long.
@@ -109,11 +142,47 @@ pub(super) fn notify_next_if(gets: &mut Gets, test: bool, lendings: &mut Lending
     if test { gets.notify(lendings) } else { None }
 }
 
-/// Who holds a connection that a try takes out: the get, where it is checked before the get is served with it.
-pub(super) fn holder(config: &Config, get: GetKey) -> Holder
-    ensures { result ≡ cond (settings_of config.now).test_on_check_out (Get get.number) Guard }
+/// Whether the connection that is first of the idle ones is checked before a get is served with it.
+/// One entry is lent where its time in idleness decides.
+#[inline(always)]
+pub(super) fn checks_first<C: Drop>(
+    config: &Config,
+    records: &Records<C>,
+    now: u64,
+    lendings: &mut Lendings,
+) -> bool
+    ensures value { (k : ℕ) → places.first_of (settings_of config.now).queue_strategy
+        records.now.idle ≡ Some k → result ≡ places.is_checked (settings_of config.now) now
+        (places.entered_in (map.get records.now.places k)) }
+    ensures examined { AddsLent 1 0 lendings.old lendings.new }
 {
-    if config.test_on_check_out {
+    if !config.test_on_check_out {
+        return false;
+    }
+    if config.test_after.is_zero() {
+        return true;
+    }
+    match records.first_entered(config.queue_strategy, lendings) {
+        // None is idle, so nothing goes out.
+        None => true,
+        Some(entered) => config.test_after.as_nanos() <= now.saturating_sub(entered) as u128,
+    }
+}
+
+/// Whether a connection whose check was cut off counts as broken.
+#[inline]
+pub(super) fn is_doubtful(config: &Config, broken: bool) -> bool
+    ensures { result ≡ places.is_doubtful (settings_of config.now) broken }
+{
+    broken || !config.test_after.is_zero()
+}
+
+/// Who holds a connection that a try takes out: the get, where it is checked before the get is
+/// served with it.
+pub(super) fn holder(checked: bool, get: GetKey) -> Holder
+    ensures { result ≡ cond checked (Get get.number) Guard }
+{
+    if checked {
         Holder::Get(get.number)
     } else {
         Holder::Guard

@@ -4,7 +4,7 @@ ghost use Rattle.bb8_ledger.specs.Acts as acts;
 ghost use Rattle.bb8_ledger.specs.Answers as answers;
 ghost use Rattle.bb8_ledger.specs.Ledger as ledger;
 ghost use Rattle.bb8_types.specs.Figures.{figures_of};
-ghost use Rattle.bb8_core.specs.Closings.{OffersLeft};
+ghost use Rattle.bb8_core.specs.Closings.{OffersLeft, OffersShut};
 ghost use Rattle.bb8_core.specs.Parts.{IsCounted};
 ghost use Rattle.bb8_core.specs.StateView.{Represents, Meets, Lends, Searches, IsFitting, IsWithinLimits};
 ghost use Rattle.bb8_core.specs.StepAnswers.{answer_of_join, answer_of_leave, answer_of_look};
@@ -57,8 +57,8 @@ impl<C: Drop, A> PoolInternals<C, A> {
         Ok(JoinAnswer::Joined)
     }
 
-    /// Takes a handle away. With the last one all idle connections and all unclaimed approvals end; the connections are dropped here. Where no
-    /// handle is alive nothing changes.
+    /// Takes a handle away. With the last one all idle connections and all unclaimed approvals end;
+    /// the connections are dropped here. Where no handle is alive nothing changes.
     pub fn leave(&mut self, at: Moment) -> Result<LeaveAnswer, Unfit>
         ensures step { Stepped Meets answer_of_leave self.old at.0 acts.Leave result self.new }
         ensures counts { IsCounted self.old 0 0 self.new }
@@ -74,7 +74,8 @@ impl<C: Drop, A> PoolInternals<C, A> {
         Ok(self.leave_into(at, &mut dropped))
     }
 
-    /// Leaves as `leave` does, and puts the connections that it closes into a list, in line. What the list has no room for is dropped.
+    /// Leaves as `leave` does, and puts the connections that it closes into a list, in line. What
+    /// the list has no room for is dropped.
     pub fn leave_into(&mut self, at: Moment, closed: &mut ClosedList<C>) -> LeaveAnswer
         requires { IsFitting self.old acts.Leave }
         ensures step { Meets self.old at.0 acts.Leave (answer_of_leave result) self.new }
@@ -87,10 +88,46 @@ impl<C: Drop, A> PoolInternals<C, A> {
         self.lendings.start();
         if self.handles == 1 {
             self.handles = 0;
+            self.closed_below = u64::MAX;
             return LeaveAnswer::Left(self.records.leave(closed));
         }
         self.handles -= 1;
         LeaveAnswer::Left(0)
+    }
+
+    /// Closes the pool: takes all handles away at once. All idle connections and all unclaimed
+    /// approvals end, as with the last handle that leaves; the connections are dropped here. Where
+    /// no handle is alive nothing changes.
+    pub fn close(&mut self, at: Moment) -> Result<LeaveAnswer, Unfit>
+        ensures step { Stepped Meets answer_of_leave self.old at.0 acts.Close result self.new }
+        ensures counts { IsCounted self.old 0 0 self.new }
+        ensures examined { IfOk result (λ told. Lends 0 self.old self.new) }
+        ensures searched { IfOk result (λ told. Searches 0 self.new) }
+        ensures limits { IsWithinLimits self.old }
+    {
+        self.limits();
+        if !self.fits_close() {
+            return Err(Unfit);
+        }
+        let mut dropped = self.records.no_list();
+        Ok(self.close_into(at, &mut dropped))
+    }
+
+    /// Closes as `close` does, and puts the connections that it closes into a list, in line. What
+    /// the list has no room for is dropped.
+    pub fn close_into(&mut self, at: Moment, closed: &mut ClosedList<C>) -> LeaveAnswer
+        requires { IsFitting self.old acts.Close }
+        ensures step { Meets self.old at.0 acts.Close (answer_of_leave result) self.new }
+        ensures closed { OffersShut self.old closed.old closed.new }
+        ensures counts { IsCounted self.old 0 0 self.new }
+        ensures examined { Lends 0 self.old self.new }
+        ensures searched { Searches 0 self.new }
+    {
+        self.latest = self.latest.max(at.0);
+        self.lendings.start();
+        self.handles = 0;
+        self.closed_below = u64::MAX;
+        LeaveAnswer::Left(self.records.leave(closed))
     }
 
     /// The effective moment, and whether a handle is alive.

@@ -1,5 +1,5 @@
-//! The questions that a state answers: whether an event fits, and where a number stands. Those that look at an entry count in a count of their
-//! own, which is forgotten.
+//! The questions that a state answers: whether an event fits, and where a number stands. Those that
+//! look at an entry count in a count of their own, which is forgotten.
 ghost use Rattle.std.specs.Prelude.{◌≡◌, ◌+◌, ◌≤◌, min, Bool, cond, eqb, [], length, is_some, IfSome, IfNone, true};
 ghost use Rattle.bb8_ledger.specs.Acts as acts;
 ghost use Rattle.bb8_ledger.specs.Ledger as ledger;
@@ -14,8 +14,9 @@ use bb8_tables::gets::{held, is_trying};
 use bb8_types::standing::Getting;
 
 impl<C: Drop, A> PoolInternals<C, A> {
-    /// What holds of every state, whoever has it: its configuration is lawful, connections and open approvals are within the size, and the
-    /// legal ledger that it represents keeps all limits. It does nothing.
+    /// What holds of every state, whoever has it: its configuration is lawful, connections and open
+    /// approvals are within the size, and the legal ledger that it represents keeps all limits. It
+    /// does nothing.
     pub fn limits(&self)
         ensures lawful { is_lawful self.now.config ≡ true }
         ensures size { self.now.records.conns + self.now.records.approved ≤
@@ -25,14 +26,16 @@ impl<C: Drop, A> PoolInternals<C, A> {
         let _ = &self.config;
     }
 
-    /// How many entries of its tables the latest step lent: each time what stands at a place was read or changed.
+    /// How many entries of its tables the latest step lent: each time what stands at a place was
+    /// read or changed.
     pub fn examined(&self) -> u64
         ensures { result ≡ examined self.now }
     {
         self.lendings.lent()
     }
 
-    /// How often the latest step searched a table, as a key that it was handed told a place where its number does not stand.
+    /// How often the latest step searched a table, as a key that it was handed told a place where
+    /// its number does not stand.
     pub fn searched(&self) -> u64
         ensures { result ≡ searched self.now }
     {
@@ -46,8 +49,9 @@ impl<C: Drop, A> PoolInternals<C, A> {
         self.records.next_number()
     }
 
-    /// How many events may still come that end a get, a handle or the lending of a connection: one of each get alive, of each handle alive,
-    /// and of each connection that is out. It stays at the greatest u64.
+    /// How many events may still come that end a get, a handle or the lending of a connection: one
+    /// of each get alive, of each handle alive, and of each connection that is out. It stays at the
+    /// greatest u64.
     pub fn endings(&self) -> u64
         ensures { result ≡ min (endings_of self.now) end_of_numbers }
     {
@@ -76,6 +80,13 @@ impl<C: Drop, A> PoolInternals<C, A> {
         ensures { TellsFitting self.now acts.Join result }
     {
         self.fits_begin()
+    }
+
+    /// Whether the pool may be closed: while a handle is alive.
+    pub fn fits_close(&self) -> bool
+        ensures { TellsFitting self.now acts.Close result }
+    {
+        self.fits_join()
     }
 
     /// Whether a handle may be dropped: while one is alive.
@@ -161,7 +172,8 @@ impl<C: Drop> PoolInternals<C> {
         self.records.idle_connections()
     }
 
-    /// How many connections the next leave closes: all that are idle, where one handle is alive and no other.
+    /// How many connections the next leave closes: all that are idle, where one handle is alive and
+    /// no other.
     pub fn closed_by_leave(&self) -> u32
         ensures { result ≡ length (cond (eqb self.now.handles 1) self.now.records.idle []) }
     {

@@ -2,8 +2,8 @@
 
 use std::alloc::Global;
 
-/// A place for each number from a first one on. A place is a hint, so one that is not known may be any: hints are given up where memory
-/// is refused for them.
+/// A place for each number from a first one on. A place is a hint, so one that is not known may be
+/// any: hints are given up where memory is refused for them.
 #[derive(Drop)]
 pub(crate) struct Hints {
     first: u64,

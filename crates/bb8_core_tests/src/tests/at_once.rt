@@ -7,8 +7,8 @@ use bb8_core::internals::{
     AddAnswer, BeginAnswer, GiveUpAnswer, PoolInternals, PutBackAnswer, Reason,
 };
 
-/// The first get raises the peak and goes by the two steps; the second is served in one step, as get 1 with connection 0; with nothing idle
-/// none is.
+/// The first get raises the peak and goes by the two steps; the second is served in one step, as
+/// get 1 with connection 0; with nothing idle none is.
 #[test]
 fn succeeds_serving_at_once(rt: HostRuntime) {
     let config = unchecked(1, None);

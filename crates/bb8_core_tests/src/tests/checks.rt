@@ -58,6 +58,8 @@ fn counted(started: u64, direct: u64, timed_out: u64, cancelled: u64) -> Statist
         connections_closed_invalid: 0,
         connections_closed_max_lifetime: 0,
         connections_closed_idle_timeout: 0,
+        connections_closed_retired: 0,
+        connections_detached: 0,
     }
 }
 

@@ -1,4 +1,5 @@
-//! Twenty-five thousand gets that wait: who is notified, what is counted, and that no step lends more than four entries.
+//! Twenty-five thousand gets that wait: who is notified, what is counted, and that no step lends
+//! more than four entries.
 
 use super::{assert_equal, granted, unchecked};
 use bb8_core::api::{Moment, State};
@@ -15,8 +16,9 @@ const NOW: Moment = Moment(0);
 /// How many gets wait.
 const CROWD: u32 = 25_000;
 
-/// What a pool tells, in the order in which a state is printed: connections, idle, started, direct, waited, timed out, cancelled, the
-/// wait time in nanoseconds, created, closed as broken, as invalid, by lifetime, by idle timeout.
+/// What a pool tells, in the order in which a state is printed: connections, idle, started, direct,
+/// waited, timed out, cancelled, the wait time in nanoseconds, created, closed as broken, as
+/// invalid, by lifetime, by idle timeout.
 fn figures(state: &State) -> [u128; 13] {
     let statistics = &state.statistics;
     [
@@ -129,7 +131,8 @@ fn serve_from(rt: &impl Abort, pool: &mut PoolInternals<u32>, first: GetKey) -> 
     CROWD
 }
 
-/// Asserts how many entries the step that was made lent, and that it searched for none, as each key told where its number stands.
+/// Asserts how many entries the step that was made lent, and that it searched for none, as each key
+/// told where its number stands.
 fn assert_lent(rt: &impl Abort, pool: &PoolInternals<u32>, wanted: u64) {
     assert_equal(&rt, (pool.examined(), pool.searched()), (wanted, 0));
 }
@@ -149,7 +152,8 @@ fn steps_tell_what_they_lent(rt: HostRuntime) {
     let notified = open(&rt, &mut pool, 0);
     assert_lent(&rt, &pool, 3);
     assert_equal(&rt, notified.map(|get| get.number), Some(0));
-    // It is looked at and ends, and the connection goes out; then that is looked at, and becomes idle again.
+    // It is looked at and ends, and the connection goes out; then that is looked at, and becomes
+    // idle again.
     let (key, conn) = served_by(&rt, &mut pool, get);
     assert_lent(&rt, &pool, 2);
     assert!(rt; put_back(&rt, &mut pool, key, conn).is_none());
@@ -162,7 +166,8 @@ fn steps_tell_what_they_lent(rt: HostRuntime) {
     assert_lent(&rt, &pool, 0);
 }
 
-/// 25,000 gets wait for three connections, and whoever is notified tries, is served and returns (upstream's test_lots_of_waiters).
+/// 25,000 gets wait for three connections, and whoever is notified tries, is served and returns
+/// (upstream's test_lots_of_waiters).
 #[test]
 fn crowd_is_served_over_three_connections(rt: HostRuntime) {
     let mut pool = crowded(&rt, rt.alloc(), 3);
@@ -186,7 +191,8 @@ fn crowd_is_served_over_three_connections(rt: HostRuntime) {
         panic!(rt; "nobody was notified");
     };
     assert_equal(&rt, (first.number, second.number, third.number), (0, 1, 2));
-    // The first one is served, and with its connection all but the two that the other openings notified.
+    // The first one is served, and with its connection all but the two that the other openings
+    // notified.
     assert_equal(&rt, serve_from(&rt, &mut pool, first), 24_998);
     assert_equal(&rt, serve_from(&rt, &mut pool, second), 1);
     assert_equal(&rt, serve_from(&rt, &mut pool, third), 1);
@@ -200,7 +206,8 @@ fn crowd_is_served_over_three_connections(rt: HostRuntime) {
     assert_equal(&rt, state.statistics.pending_gets(), 0);
 }
 
-/// Of 25,000 that wait the first and then every second one are let go; one opening notifies get 1, and its return get 3.
+/// Of 25,000 that wait the first and then every second one are let go; one opening notifies get 1,
+/// and its return get 3.
 #[test]
 fn oldest_that_is_left_is_notified(rt: HostRuntime) -> Result<(), Fail> {
     let mut pool = crowded(&rt, rt.alloc(), 1);

@@ -58,7 +58,8 @@ fn out(
     (key, found)
 }
 
-/// Asserts that a try found nothing, waits, and asks for so many approvals, the first of this number.
+/// Asserts that a try found nothing, waits, and asks for so many approvals, the first of this
+/// number.
 fn assert_waits(rt: &impl Abort, tried: Option<TryAnswer<Colour>>, first: u64, count: u32) {
     let Some(TryAnswer::Waiting(grant)) = tried else {
         panic!(rt; "the get does not wait");
@@ -66,8 +67,9 @@ fn assert_waits(rt: &impl Abort, tried: Option<TryAnswer<Colour>>, first: u64, c
     assert_equal(&rt, grant, granted(first, count));
 }
 
-/// Gets 0, 1 and 2 wait for one connection. It comes, and 0 has it; it comes back, and 1 has it; it comes back broken, and 2 asks for another,
-/// which it has when it comes. Nobody waits when that one is given back, and it cannot be given back twice.
+/// Gets 0, 1 and 2 wait for one connection. It comes, and 0 has it; it comes back, and 1 has it; it
+/// comes back broken, and 2 asks for another, which it has when it comes. Nobody waits when that
+/// one is given back, and it cannot be given back twice.
 #[test]
 fn succeeds_handing_over_in_turn(rt: HostRuntime) {
     let mut pool = one(&rt, rt.alloc(), false);
@@ -122,7 +124,8 @@ fn added_connection_is_handed_over(rt: HostRuntime) {
     assert_equal(&rt, key.number, 1);
 }
 
-/// Gets 0, 1 and 2 wait for one connection, which is checked. 0 has it and is cancelled, and 1 has it; its check fails, and 2 asks for another.
+/// Gets 0, 1 and 2 wait for one connection, which is checked. 0 has it and is cancelled, and 1 has
+/// it; its check fails, and 2 asks for another.
 #[test]
 fn check_hands_over(rt: HostRuntime) {
     let mut pool = one(&rt, rt.alloc(), true);
@@ -154,7 +157,8 @@ fn check_hands_over(rt: HostRuntime) {
     assert_waits(&rt, tried, 1, 1);
 }
 
-/// Get 0 has the only connection, and 1 and 2 wait. It comes back with no hand-over; 1 was notified and gives up, and 2 has it.
+/// Get 0 has the only connection, and 1 and 2 wait. It comes back with no hand-over; 1 was notified
+/// and gives up, and 2 has it.
 #[test]
 fn give_up_hands_on(rt: HostRuntime) {
     let mut pool = one(&rt, rt.alloc(), false);

@@ -41,8 +41,8 @@ fn reap(rt: &impl Abort, pool: &mut PoolInternals<u64>, at: Moment) -> (u64, u64
     both
 }
 
-/// 1,000 connections, of which three are out and the oldest, and so many idle ones as old as they are. These have lived a second at a
-/// reap; the others are half a second old.
+/// 1,000 connections, of which three are out and the oldest, and so many idle ones as old as they
+/// are. These have lived a second at a reap; the others are half a second old.
 fn crowd(rt: &impl Abort, alloc: Global, old: u64) -> PoolInternals<u64> {
     let config = Config {
         max_lifetime: Some(Duration::from_secs(1)),
@@ -62,8 +62,9 @@ fn crowd(rt: &impl Abort, alloc: Global, old: u64) -> PoolInternals<u64> {
     pool
 }
 
-/// Of 1,000 connections three are out, the oldest, and alone old enough, and a reap closes none; where 40 idle ones are as old, it closes
-/// these. It looks at those, at the three, at the next one by birth, and at the one that has been idle longest.
+/// Of 1,000 connections three are out, the oldest, and alone old enough, and a reap closes none;
+/// where 40 idle ones are as old, it closes these. It looks at those, at the three, at the next one
+/// by birth, and at the one that has been idle longest.
 #[test]
 fn reap_passes_what_is_out_and_old(rt: HostRuntime) {
     for (old, left) in [(0, 1000), (40, 960)] {
@@ -77,7 +78,8 @@ fn reap_passes_what_is_out_and_old(rt: HostRuntime) {
     }
 }
 
-/// 1,000 connections are idle, of which 990 are to be. The one that goes out first goes out and comes back half a second later.
+/// 1,000 connections are idle, of which 990 are to be. The one that goes out first goes out and
+/// comes back half a second later.
 fn many_idle(rt: &impl Abort, alloc: Global, queue_strategy: QueueStrategy) -> PoolInternals<u64> {
     let config = Config {
         max_lifetime: None,
@@ -96,8 +98,9 @@ fn many_idle(rt: &impl Abort, alloc: Global, queue_strategy: QueueStrategy) -> P
     pool
 }
 
-/// All but one are idle for the limit. A reap closes the ten that entered first, by both strategies, and looks at no more; once
-/// the last one is idle for the limit, too, nothing is left to close.
+/// All but one are idle for the limit. A reap closes the ten that entered first, by both
+/// strategies, and looks at no more; once the last one is idle for the limit, too, nothing is left
+/// to close.
 #[test]
 fn reap_spares_what_is_to_be_idle(rt: HostRuntime) {
     for (queue_strategy, back, closed, stays, next) in [

@@ -34,7 +34,8 @@ fn assert_answers(rt: &impl Abort, lines: &[ReplayLine], answers: &[Answer]) {
     }
 }
 
-/// Runs a table, from a first number of connections and approvals and one of gets on, and gives what the pool tells at the end.
+/// Runs a table, from a first number of connections and approvals and one of gets on, and gives
+/// what the pool tells at the end.
 fn shown_after_from(
     rt: &impl Abort,
     alloc: Global,
@@ -50,7 +51,8 @@ fn shown_after_from(
     Ok(pool.state(Moment(0)))
 }
 
-/// The last number of a get is given, and the next get is refused; the last two of approvals are, and three more are withheld.
+/// The last number of a get is given, and the next get is refused; the last two of approvals are,
+/// and three more are withheld.
 #[test]
 fn gives_no_number_past_the_last(rt: HostRuntime) -> Result<(), Fail> {
     let gets = [
@@ -87,8 +89,8 @@ fn gives_no_number_past_the_last(rt: HostRuntime) -> Result<(), Fail> {
     Ok(())
 }
 
-/// Two numbers are left: a fill is granted both and withheld one; then an adding is withheld, a broken one is called broken, and a fill is
-/// granted none and withheld one.
+/// Two numbers are left: a fill is granted both and withheld one; then an adding is withheld, a
+/// broken one is called broken, and a fill is granted none and withheld one.
 #[test]
 fn used_up_numbers_withhold_grants_and_addings(rt: HostRuntime) -> Result<(), Fail> {
     let last_two = Grant {

@@ -78,6 +78,8 @@ fn counted_gets(rt: HostRuntime) {
         connections_closed_invalid: 0,
         connections_closed_max_lifetime: 0,
         connections_closed_idle_timeout: 0,
+        connections_closed_retired: 0,
+        connections_detached: 0,
     };
     assert_equal(&rt, some.completed_gets(), 7);
     assert_equal(&rt, some.pending_gets(), 16);
@@ -90,7 +92,8 @@ fn text_of_refused_memory(rt: HostRuntime) -> Result<(), Fail> {
     Ok(())
 }
 
-/// A state has one count of what its steps are lent: with a second one, in which a step could look unseen, it would be larger.
+/// A state has one count of what its steps are lent: with a second one, in which a step could look
+/// unseen, it would be larger.
 #[test]
 fn state_has_one_count(rt: HostRuntime) {
     assert_equal(&rt, size_of::<PoolInternals<u64>>(), 568);

@@ -46,7 +46,8 @@ fn stands_at(noted: &[(u64, Answer)], at: usize, index: u64, answer: Answer) -> 
     }
 }
 
-/// Whether a seat noted this. Where the indices rise, as they do in a run, it is found without a search.
+/// Whether a seat noted this. Where the indices rise, as they do in a run, it is found without a
+/// search.
 fn has_note(noted: &[(u64, Answer)], index: u64, answer: Answer) -> bool
     ensures { Decides result (Contains noted.now (index, answer)) }
 {
@@ -97,8 +98,9 @@ fn are_noted(entries: &[Entry], notes: &[Notes]) -> bool
     true
 }
 
-/// Whether no note is missing and the notes together are the entries' indices with their seats and answers, each once. Then each seat's
-/// entries are as many as the steps that it made. It needs no memory.
+/// Whether no note is missing and the notes together are the entries' indices with their seats and
+/// answers, each once. Then each seat's entries are as many as the steps that it made. It needs no
+/// memory.
 pub fn audit(entries: &[Entry], notes: &[Notes]) -> bool
     ensures account { Decides result (IsAccount entries.now notes.now) }
     ensures seats { result ≡ true

@@ -1,4 +1,5 @@
-//! What the lock of a shared journal holds: a pool, the history of all that was done to it, and the book of the seats' steps.
+//! What the lock of a shared journal holds: a pool, the history of all that was done to it, and the
+//! book of the seats' steps.
 ghost use Rattle.std.specs.Prelude.{◌≡◌, ◌+◌, ◌≤◌, ◌++◌, ◌∷◌, [], true, IfOk, OnErr, IsOk, length, vec_len, vec_capacity, map, ℕ};
 ghost use Rattle.std.specs.List.{sum_by};
 ghost use Rattle.bb8_core.specs.declared.replay.events.Answer.{Answer as Told};
@@ -33,8 +34,8 @@ pub struct Entry {
 #[derive(Clone, Copy, Debug, PartialEq, Eq)]
 pub struct NoRoom;
 
-/// The ledger by which a journal's seats count their steps, one part a seat. It names the configuration that the journal was opened with.
-/// A program names `Brand`.
+/// The ledger by which a journal's seats count their steps, one part a seat. It names the
+/// configuration that the journal was opened with. A program names `Brand`.
 pub trait Recorded: Ledger {
     ghost use Rattle.bb8_types.specs.Settings.{Settings};
 
@@ -48,8 +49,9 @@ impl Recorded for Brand {
     ghost config = { default_settings };
 }
 
-/// A pool with its history: the entries replay to the pool, they are as many as the book counts steps, and there is room for an entry of
-/// each ending event that may come. Contracts see it as its entries and its pool.
+/// A pool with its history: the entries replay to the pool, they are as many as the book counts
+/// steps, and there is room for an entry of each ending event that may come. Contracts see it as
+/// its entries and its pool.
 #[derive(Drop)]
 pub struct Journal<L: Recorded> {
     pool: PoolInternals<u64>,
@@ -86,10 +88,14 @@ impl<L: Recorded> Model for Journal<L> {
 fn is_ending(act: Act) -> bool
     ensures { result ≡ is_named_ending act }
 {
-    matches!(act, Act::GiveUp(..) | Act::PutBack(..) | Act::Leave)
+    matches!(
+        act,
+        Act::GiveUp(..) | Act::PutBack(..) | Act::Detach(..) | Act::Leave | Act::Close
+    )
 }
 
-/// Makes room for an entry, and for one of each ending event that may come then, if memory is there.
+/// Makes room for an entry, and for one of each ending event that may come then, if memory is
+/// there.
 fn reserve(pool: &PoolInternals<u64>, history: &mut Vec<Entry>) -> bool
     requires { vec_len history.old + endings_of pool.now ≤ vec_capacity history.old }
     ensures items { history.new.items ≡ history.old.items }
@@ -104,8 +110,9 @@ fn reserve(pool: &PoolInternals<u64>, history: &mut Vec<Entry>) -> bool
     }
 }
 
-/// Whether there is room for the entry of an event and for those of the ending events after it. Room is made, if memory is there; where it
-/// is not, a fitting ending event has its room all the same.
+/// Whether there is room for the entry of an event and for those of the ending events after it.
+/// Room is made, if memory is there; where it is not, a fitting ending event has its room all the
+/// same.
 fn make_room(pool: &PoolInternals<u64>, history: &mut Vec<Entry>, event: Event) -> bool
     requires { vec_len history.old + endings_of pool.now ≤ vec_capacity history.old }
     ensures items { history.new.items ≡ history.old.items }
@@ -128,9 +135,10 @@ impl<L: Recorded> Journal<L> {
     ghost use Rattle.bb8_journal.specs.Notes.{steps_of, Makes, notes_of};
     ghost use Rattle.bb8_journal.specs.History.{entry, IsUnwritten, Replays, AfterEachEntry};
 
-    /// Lets an event happen that a seat makes, and writes it down. It answers the entry's index and what the event was answered, `Unfit`
-    /// where it did not fit. `NoRoom` comes where memory for an entry was refused, and never to an ending event that fits: a `GiveUp`, a
-    /// `PutBack` or a `Leave`.
+    /// Lets an event happen that a seat makes, and writes it down. It answers the entry's index and
+    /// what the event was answered, `Unfit` where it did not fit. `NoRoom` comes where memory for
+    /// an entry was refused, and never to an ending event that fits: a `GiveUp`, a `PutBack`, a
+    /// `Detach`, a `Leave` or a `Close`.
     pub fn apply(&mut self, seat: &mut Seat<L>, event: Event) -> Result<(u64, Answer), NoRoom>
         ensures index { IfOk result (λ r. r.0 ≡ length self.old.entries) }
         ensures entry { IfOk result (λ r.
@@ -163,8 +171,8 @@ impl<L: Recorded> Journal<L> {
         Ok((index, answer))
     }
 
-    /// What holds of every journal, whoever has it: its entries replay to its pool, and after each beginning of them the pool keeps the
-    /// limits, the laws and the promises. It does nothing.
+    /// What holds of every journal, whoever has it: its entries replay to its pool, and after each
+    /// beginning of them the pool keeps the limits, the laws and the promises. It does nothing.
     pub fn limits(&self)
         ensures replays { Replays L.config self.now.entries self.now.pool }
         ensures limits { AfterEachEntry KeepsLimits L.config self.now.entries }
@@ -174,7 +182,8 @@ impl<L: Recorded> Journal<L> {
         let _ = &self.history;
     }
 
-    /// With no entry yet. The book is new, and the share has none of its parts. Room is kept for the end of the one handle.
+    /// With no entry yet. The book is new, and the share has none of its parts. Room is kept for
+    /// the end of the one handle.
     pub(crate) fn new(
         alloc: Global,
         config: Config,
@@ -198,8 +207,9 @@ impl<L: Recorded> Journal<L> {
         })
     }
 
-    /// The history, the state that it leads to, and what all seats noted. Each seat's part of the ledger shows how many steps it made, so
-    /// the entries are as many as the steps of all seats. The list of notes is given, and has room for those of each seat.
+    /// The history, the state that it leads to, and what all seats noted. Each seat's part of the
+    /// ledger shows how many steps it made, so the entries are as many as the steps of all seats.
+    /// The list of notes is given, and has room for those of each seat.
     pub(crate) fn close(
         self,
         seats: Vec<Seat<L>>,

@@ -38,6 +38,8 @@ fn is_same_statistics(one: Statistics, other: Statistics) -> bool
         && one.connections_closed_invalid == other.connections_closed_invalid
         && one.connections_closed_max_lifetime == other.connections_closed_max_lifetime
         && one.connections_closed_idle_timeout == other.connections_closed_idle_timeout
+        && one.connections_closed_retired == other.connections_closed_retired
+        && one.connections_detached == other.connections_detached
 }
 
 /// Whether two figures are one.

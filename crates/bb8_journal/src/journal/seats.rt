@@ -6,7 +6,8 @@ use std::alloc::Global;
 use std::marker::Model;
 use std::sync::ledger::{Book, Ledger, Share};
 
-/// What a seat noted: the index and the answer of each of its steps, but for those that are missing.
+/// What a seat noted: the index and the answer of each of its steps, but for those that are
+/// missing.
 #[derive(Drop)]
 pub struct Notes {
     /// The number of the seat.
@@ -17,8 +18,8 @@ pub struct Notes {
     pub missing: u64,
 }
 
-/// One of those who make steps. It has one part of the journal's ledger, whose amount is the number of its steps. Contracts see it as what
-/// it noted.
+/// One of those who make steps. It has one part of the journal's ledger, whose amount is the number
+/// of its steps. Contracts see it as what it noted.
 #[derive(Drop)]
 pub struct Seat<L: Ledger> {
     number: usize,
@@ -62,7 +63,8 @@ impl<L: Ledger> Seat<L> {
         self.number
     }
 
-    /// Counts a step, and notes its index and answer; the note is missing where memory for it was refused.
+    /// Counts a step, and notes its index and answer; the note is missing where memory for it was
+    /// refused.
     pub(crate) fn count(&mut self, book: &mut Book<L>, index: u64, answer: Answer)
         requires few { book.old.total + 1 < 2 ^ 64 }
         ensures total { book.new.total ≡ book.old.total + 1 }

@@ -17,8 +17,9 @@ use std::marker::PhantomData;
 use std::sync::ledger::{Blank, Ledger, Share};
 use std::sync::{Mutex, Wait};
 
-/// How many seats there are: as many as the ledger has parts. It is a struct of its own as the toolchain finds the parts in a ghost fact under
-/// the bound `Ledger`, and not under one that has it for a supertrait.
+/// How many seats there are: as many as the ledger has parts. It is a struct of its own as the
+/// toolchain finds the parts in a ghost fact under the bound `Ledger`, and not under one that has
+/// it for a supertrait.
 #[derive(Drop)]
 struct Seats<L: Ledger> {
     count: usize,
@@ -55,9 +56,10 @@ fn cut<L: Ledger>(alloc: Global, rest: &mut Share<L>, seats: usize) -> Result<Ve
 }
 
 impl<L: Recorded> SharedJournal<L> {
-    /// A journal with no entry, of a pool with one handle, and its seats, which are numbered from 0. It asks for a blank ledger of as many
-    /// parts as there are to be seats, at least one. `Memory` comes where memory was refused: for the seats, for what `close` needs, or
-    /// for the entry of the handle's end.
+    /// A journal with no entry, of a pool with one handle, and its seats, which are numbered from
+    /// 0. It asks for a blank ledger of as many parts as there are to be seats, at least one.
+    /// `Memory` comes where memory was refused: for the seats, for what `close` needs, or for the
+    /// entry of the handle's end.
     pub fn new(
         alloc: Global,
         config: Config,
@@ -98,9 +100,9 @@ impl<L: Recorded> SharedJournal<L> {
         self.seats.count
     }
 
-    /// Takes the lock, lets an event happen that a seat makes, and writes it down. It answers the entry's index and what the event was
-    /// answered, which is what the seat noted. `NoRoom` comes where memory for the entry was refused, and never to an ending event that
-    /// fits.
+    /// Takes the lock, lets an event happen that a seat makes, and writes it down. It answers the
+    /// entry's index and what the event was answered, which is what the seat noted. `NoRoom` comes
+    /// where memory for the entry was refused, and never to an ending event that fits.
     pub fn step<R: Wait>(
         &self,
         rt: &R,
@@ -114,9 +116,10 @@ impl<L: Recorded> SharedJournal<L> {
         self.journal.lock(rt).apply(seat, event)
     }
 
-    /// The history, the state that it leads to, and what the seats noted, in the order in which they are given. As many seats are asked for
-    /// as there are: that they are this journal's, each once, follows from their parts of its ledger. So the entries are as many as the
-    /// steps that the seats made. It takes no memory.
+    /// The history, the state that it leads to, and what the seats noted, in the order in which
+    /// they are given. As many seats are asked for as there are: that they are this journal's, each
+    /// once, follows from their parts of its ledger. So the entries are as many as the steps that
+    /// the seats made. It takes no memory.
     pub fn close(self, seats: Vec<Seat<L>>) -> (Vec<Entry>, PoolInternals<u64>, Vec<Notes>)
         requires { length seats.items ≡ L.parts }
         ensures replays { Replays L.config result.0.items result.1 }

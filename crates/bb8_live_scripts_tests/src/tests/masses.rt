@@ -1,4 +1,5 @@
-//! Transcripts made at random: each answer, and the figures then, are what the core's replay gives to the same events.
+//! Transcripts made at random: each answer, and the figures then, are what the core's replay gives
+//! to the same events.
 
 use bb8::{Config, Moment, Runtime, Turn};
 use bb8_core::internals::PoolInternals;
@@ -26,6 +27,8 @@ const GETS: u64 = 5;
 #[derive(Clone, Copy)]
 enum Life {
     Fresh,
+    /// It has no handle, as the pool was closed.
+    Refused,
     /// Its number, its deadline, and the connection that it checks.
     Begun(u64, u64, Option<u64>),
     Ended,
@@ -37,6 +40,14 @@ struct Caller {
     life: Life,
     owned: bool,
     guard: Option<u64>,
+}
+
+/// A connection: its number in the core, its number in the script, and how many checks of it began.
+#[derive(Clone, Copy)]
+struct Named {
+    number: u64,
+    name: u64,
+    checks: u64,
 }
 
 /// A transcript that is written, the core of its pool, and how its server answers.
@@ -54,8 +65,12 @@ struct Writer {
     callers: Vec<Caller>,
     /// The approvals that are claimed.
     tasks: Vec<u64>,
-    /// The numbers of connections, and what the script calls them.
-    names: Vec<(u64, u64)>,
+    /// The connections that are or were the pool's.
+    named: Vec<Named>,
+    /// Connections outside the pool, by index: detached ones, and those that were not added.
+    kept: Vec<Option<Named>>,
+    /// The name of the latest connection that no opening brought.
+    made: u64,
     opening: Course,
     check: Course,
     breaks: u64,
@@ -75,7 +90,14 @@ fn pick<'a>(source: &RandomSource, words: &[&'a str]) -> &'a str {
 fn config_line(alloc: Global, source: &RandomSource) -> Result<String, Fault> {
     let size = source.below(4).saturating_add(1);
     let idle = source.below(size.saturating_add(1));
-    let check = pick(source, &["on strategy=fifo", "off strategy=lifo"]);
+    let check = pick(
+        source,
+        &[
+            "on strategy=fifo",
+            "on strategy=lifo test_after=150",
+            "off strategy=lifo",
+        ],
+    );
     let times = pick(source, &["idle=500 lifetime=none", "lifetime=2000"]);
     let line = format!(in alloc; "config max_size={size} min_idle={idle} check={check} {times}")?;
     Ok(format!(in alloc; "{line} timeout=1000 reaper=300 retry=off")?)
@@ -102,7 +124,9 @@ impl Writer {
             due: 300,
             callers: Vec::new(alloc),
             tasks: Vec::new(alloc),
-            names: Vec::new(alloc),
+            named: Vec::new(alloc),
+            kept: Vec::new(alloc),
+            made: 1000,
             opening: Course::Passes,
             check: Course::Passes,
             breaks: 0,
@@ -114,25 +138,25 @@ impl Writer {
         Ok(writer)
     }
 
-    /// Makes an event at the moment of the clock.
+    /// Makes an event at the moment of the clock, and counts the connections that it drops.
     fn apply(&mut self, act: Act) -> Answer {
         let at = Moment(self.clock);
         let Writer { core, known, .. } = self;
         let answer = apply(core, known, Event { at, act });
         let closed = match answer {
-            Answer::Closed(..) => 1,
-            Answer::Reaped { closed, .. } => u64::from(closed),
+            Answer::Closed(..) if !matches!(act, Act::Detach(_)) => 1,
+            Answer::Reaped { closed, .. } | Answer::Left(closed) => u64::from(closed),
             _ => 0,
         };
         self.closed = self.closed.saturating_add(closed);
         answer
     }
 
-    /// The moment that counts.
-    fn now(&mut self) -> u64 {
+    /// The moment that counts, and whether the pool is open.
+    fn look(&mut self) -> (u64, bool) {
         match self.apply(Act::Look) {
-            Answer::Looked(moment, _) => moment.0,
-            _ => 0,
+            Answer::Looked(moment, alive) => (moment.0, alive),
+            _ => (0, false),
         }
     }
 
@@ -160,12 +184,13 @@ impl Writer {
     /// A get begins.
     fn begin(&mut self, n: u64) -> Result<Caller, Fault> {
         let owned = self.source.below(2) == 0;
-        if owned {
-            self.apply(Act::Join);
-        }
+        let life = match owned && self.apply(Act::Join) == Answer::Unfit {
+            true => Life::Refused,
+            false => Life::Fresh,
+        };
         self.say(if owned { "own" } else { "get" }, n, LineAnswer::Done)?;
         Ok(Caller {
-            life: Life::Fresh,
+            life,
             owned,
             guard: None,
         })
@@ -175,7 +200,7 @@ impl Writer {
     fn give_up(&mut self, caller: &mut Caller, reason: Reason) {
         match caller.life {
             Life::Ended => return,
-            Life::Fresh => {}
+            Life::Fresh | Life::Refused => {}
             Life::Begun(get, _, held) => {
                 let broken = held.is_some() && self.is_broken();
                 self.apply(Act::GiveUp(get, reason, broken));
@@ -187,76 +212,152 @@ impl Writer {
         }
     }
 
+    /// The connection of this number. It is sound that there is one.
+    fn named(&mut self, number: u64) -> Named {
+        let found = self.named.iter().find(|named| named.number == number);
+        self.is_sound &= found.is_some();
+        found.copied().unwrap_or(Named {
+            number,
+            name: 0,
+            checks: 0,
+        })
+    }
+
     fn serve(&mut self, caller: &mut Caller, number: u64) -> LineAnswer {
-        let mut named = 0;
-        for (known, name) in self.names.iter() {
-            if *known == number {
-                named = *name;
-            }
-        }
         self.is_sound &= self.callers.iter().all(|other| other.guard != Some(number));
         caller.life = Life::Ended;
         caller.guard = Some(number);
-        LineAnswer::Served(named)
+        LineAnswer::Served(self.named(number).name)
     }
 
-    fn poll(&mut self, caller: &mut Caller) -> LineAnswer {
-        let (get, deadline, checked) = match caller.life {
-            Life::Ended => return LineAnswer::Pending,
-            Life::Begun(get, deadline, held) => (get, deadline, held),
-            Life::Fresh => {
-                let deadline = self.now().saturating_add(1000);
-                match self.apply(Act::Begin) {
-                    Answer::Begun(get) => (get, deadline, None),
-                    _ => return LineAnswer::Memory,
-                }
+    /// A check of the connection begins.
+    fn begin_check(&mut self, number: u64) {
+        for named in self.named.iter_mut() {
+            if named.number == number {
+                named.checks = named.checks.saturating_add(1);
             }
-        };
-        let held = match checked {
-            Some(number) => Some(number),
-            None => match self.apply(Act::Try(get)) {
-                Answer::Served(number, _) => return self.serve(caller, number),
-                Answer::Taken(number, _) => Some(number),
-                _ => None,
-            },
-        };
-        caller.life = Life::Begun(get, deadline, held);
-        match (held, self.check) {
-            (Some(number), Course::Passes) => {
-                self.apply(Act::CheckedOk(get));
-                return self.serve(caller, number);
-            }
-            (Some(_), Course::Fails) => {
-                let broken = self.is_broken();
-                self.apply(Act::CheckedErr(get, broken));
-                caller.life = Life::Begun(get, deadline, None);
-            }
-            _ => {}
         }
-        if self.now() < deadline {
-            return LineAnswer::Pending;
+    }
+
+    /// A connection outside the pool goes to this index, and the one that was there is dropped.
+    fn keep(&mut self, n: u64, named: Named) {
+        if let Some(place) = self.kept.get_mut(n as usize) {
+            if place.is_some() {
+                self.closed = self.closed.saturating_add(1);
+            }
+            *place = Some(named);
         }
+    }
+
+    fn time_out(&mut self, caller: &mut Caller) -> LineAnswer {
         self.give_up(caller, Reason::TimedOut);
         LineAnswer::TimedOut
     }
 
-    /// A guard is dropped, or another get comes in the place of one, or a get is polled.
+    /// One poll. Of a closed pool only a get is served whose connection is checked.
+    fn poll(&mut self, caller: &mut Caller) -> LineAnswer {
+        let (now, is_open) = self.look();
+        match caller.life {
+            Life::Ended => LineAnswer::Pending,
+            Life::Refused => {
+                caller.life = Life::Ended;
+                LineAnswer::Exhausted
+            }
+            Life::Begun(get, deadline, Some(held)) => {
+                self.poll_check(caller, get, deadline, held, now)
+            }
+            _ if !is_open => self.time_out(caller),
+            Life::Begun(get, deadline, None) => self.try_get(caller, get, deadline, now),
+            Life::Fresh => match self.apply(Act::Begin) {
+                Answer::Begun(get) => self.try_get(caller, get, now.saturating_add(1000), now),
+                _ => LineAnswer::Memory,
+            },
+        }
+    }
+
+    /// A get tries, which holds nothing.
+    fn try_get(&mut self, caller: &mut Caller, get: u64, deadline: u64, now: u64) -> LineAnswer {
+        caller.life = Life::Begun(get, deadline, None);
+        match self.apply(Act::Try(get)) {
+            Answer::Served(number, _) => self.serve(caller, number),
+            Answer::Taken(number, _) => {
+                self.begin_check(number);
+                self.poll_check(caller, get, deadline, number, now)
+            }
+            _ => self.settle(caller, deadline, now),
+        }
+    }
+
+    /// The check of the connection of this number, which a get holds, is polled.
+    fn poll_check(
+        &mut self,
+        caller: &mut Caller,
+        get: u64,
+        deadline: u64,
+        number: u64,
+        now: u64,
+    ) -> LineAnswer {
+        let mut held = Some(number);
+        match self.check {
+            Course::Passes => {
+                self.apply(Act::CheckedOk(get));
+                return self.serve(caller, number);
+            }
+            Course::Fails => {
+                let broken = self.is_broken();
+                self.apply(Act::CheckedErr(get, broken));
+                held = None;
+            }
+            Course::Lasts => {}
+        }
+        caller.life = Life::Begun(get, deadline, held);
+        self.settle(caller, deadline, now)
+    }
+
+    /// The deadline of a get that was not answered is compared.
+    fn settle(&mut self, caller: &mut Caller, deadline: u64, now: u64) -> LineAnswer {
+        if now < deadline {
+            return LineAnswer::Pending;
+        }
+        self.time_out(caller)
+    }
+
+    /// The handle of a guard that has one leaves; then the line.
+    fn say_left(
+        &mut self,
+        caller: &Caller,
+        verb: &str,
+        n: u64,
+        answer: LineAnswer,
+    ) -> Result<(), Fault> {
+        if caller.owned {
+            self.apply(Act::Leave);
+        }
+        self.say(verb, n, answer)
+    }
+
+    /// A guard is dropped or detached, a get is replaced by another one, or a get is polled.
     fn go_on(&mut self, n: u64) -> Result<(), Fault> {
         let index = n as usize;
         let Some(mut caller) = self.callers.get(index).copied() else {
             return Ok(());
         };
-        match (caller.guard, self.source.below(4)) {
-            (Some(number), 0..=1) => {
+        match (caller.guard, self.source.below(8)) {
+            (Some(number), 0..=4) => {
                 caller.guard = None;
                 let broken = self.is_broken();
                 self.apply(Act::PutBack(number, broken));
-                if caller.owned {
-                    self.apply(Act::Leave);
-                }
-                self.say("return", n, LineAnswer::Done)?;
+                self.say_left(&caller, "return", n, LineAnswer::Done)?;
             }
-            (None, 0) => {
+            (Some(number), 5) => {
+                caller.guard = None;
+                self.apply(Act::Detach(number));
+                let named = self.named(number);
+                self.keep(n, named);
+                let facts = LineAnswer::Connection((named.name, named.checks, 0));
+                self.say_left(&caller, "detach", n, facts)?;
+            }
+            (None, 0..=1) => {
                 self.give_up(&mut caller, Reason::Cancelled);
                 let verb = pick(&self.source, &["drop", "cancel"]);
                 self.say(verb, n, LineAnswer::Done)?;
@@ -273,54 +374,102 @@ impl Writer {
         Ok(())
     }
 
-    /// A turn reaps where that is due, claims, and polls all openings.
+    /// A turn reaps and asks if a tick is due, claims, and polls all openings. If the pool is
+    /// closed, it gives all approvals back.
     fn turn(&mut self) -> Result<(), Fault> {
-        let now = self.now();
-        if self.due <= now {
+        let (now, is_open) = self.look();
+        if is_open && self.due <= now {
             self.apply(Act::Reap);
+            self.apply(Act::Ask);
             self.due = (now / 300).saturating_add(1).saturating_mul(300);
         }
         for _ in 0..=self.config.max_size {
             if let Answer::Claimed(Some(approval)) = self.apply(Act::Claim) {
                 self.begun = self.begun.saturating_add(1);
                 let _ = self.tasks.push(approval);
-                let _ = self.names.push((approval, self.begun));
+                let _ = self.named.push(Named {
+                    number: approval,
+                    name: self.begun,
+                    checks: 0,
+                });
             }
         }
-        let polled = self.tasks.len() as u64;
-        if self.opening != Course::Lasts {
-            let tasks = mem::replace(&mut self.tasks, Vec::new(self.alloc));
-            for approval in tasks.iter() {
-                let act = match self.opening {
-                    Course::Fails => Act::Failed(*approval),
-                    _ => Act::Opened(*approval),
-                };
-                self.apply(act);
-            }
-        }
+        let tasks = self.tasks.len() as u64;
+        self.end_tasks(is_open);
         let turn = Turn {
-            polled,
-            ended: false,
+            polled: if is_open { tasks } else { 0 },
+            ended: !is_open,
         };
         let moment = self.clock;
         self.say("turn", moment, LineAnswer::Turned(turn))
     }
 
-    /// A connection is made, and added. One that is refused is dropped as the next one is made.
+    /// The openings that end in a turn.
+    fn end_tasks(&mut self, is_open: bool) {
+        if is_open && self.opening == Course::Lasts {
+            return;
+        }
+        let fails = !is_open || self.opening == Course::Fails;
+        let tasks = mem::replace(&mut self.tasks, Vec::new(self.alloc));
+        for approval in tasks.iter() {
+            self.apply(match fails {
+                true => Act::Failed(*approval),
+                false => Act::Opened(*approval),
+            });
+        }
+    }
+
+    /// A connection is added: one that is kept, or that is made. One that is refused is kept.
     fn add(&mut self) -> Result<(), Fault> {
-        let name = (self.names.len() as u64).saturating_add(1000);
-        writeln!(self.text, "make 0 {name}")?;
+        let n = self.source.below(GETS);
+        if self.source.below(2) == 0 {
+            self.made = self.made.saturating_add(1);
+            let name = self.made;
+            writeln!(self.text, "make {n} {name}")?;
+            self.keep(
+                n,
+                Named {
+                    number: 0,
+                    name,
+                    checks: 0,
+                },
+            );
+        }
+        let Some(named) = self.kept.get_mut(n as usize).and_then(Option::take) else {
+            return self.say("add", n, LineAnswer::Unfit);
+        };
         let broken = self.is_broken();
-        let answer = self.apply(Act::Add(broken));
-        if let Answer::Added(number, _) = answer {
-            let _ = self.names.push((number, name));
-            return self.say("add", 0, LineAnswer::Added);
-        }
-        self.closed = self.closed.saturating_add(1);
-        match answer {
-            Answer::Broken => self.say("add", 0, LineAnswer::Broken(name)),
-            _ => self.say("add", 0, LineAnswer::Full(name)),
-        }
+        let answer = match self.apply(Act::Add(broken)) {
+            Answer::Added(number, _) => {
+                let _ = self.named.push(Named { number, ..named });
+                LineAnswer::Added
+            }
+            refused => {
+                self.keep(n, named);
+                match refused {
+                    Answer::Broken => LineAnswer::Broken(named.name),
+                    _ => LineAnswer::Full(named.name),
+                }
+            }
+        };
+        self.say("add", n, answer)
+    }
+
+    /// All connections are retired, or the pool is closed, and whether it was is asked.
+    fn end(&mut self) -> Result<(), Fault> {
+        let (verb, act) = match self.source.below(4) {
+            0 => ("close", Act::Close),
+            _ => ("retire", Act::Retire),
+        };
+        self.apply(act);
+        let (_, is_open) = self.look();
+        let answer = if is_open {
+            LineAnswer::No
+        } else {
+            LineAnswer::Yes
+        };
+        writeln!(self.text, "{verb}")?;
+        self.say("is_closed", 0, answer)
     }
 
     /// The clock is set, on or back, or the server is.
@@ -355,21 +504,23 @@ impl Writer {
         }
     }
 
-    /// All steps; then all figures, and the server's counts once a connection was dropped that is no pool's.
+    /// All steps; then all figures, and the server's counts.
     fn write(&mut self) -> Result<(), Fault> {
         for n in 0..GETS {
             let caller = self.begin(n)?;
             let _ = self.callers.push(caller);
+            let _ = self.kept.push(None);
         }
         for _ in 0..STEPS {
-            match self.source.below(10) {
-                0..=5 => {
+            match self.source.below(30) {
+                0..=17 => {
                     let n = self.source.below(GETS);
                     self.go_on(n)?;
                 }
-                6..=7 => self.turn()?,
-                8 => self.add()?,
-                _ => self.set()?,
+                18..=22 => self.turn()?,
+                23..=25 => self.add()?,
+                26..=28 => self.set()?,
+                _ => self.end()?,
             }
         }
         if let Answer::Shown(state) = self.apply(Act::State) {
@@ -378,7 +529,7 @@ impl Writer {
                 .push_str(output(self.alloc, &[], state)?.as_str())?;
         }
         let (begun, closed) = (self.begun, self.closed);
-        writeln!(self.text, "make 0 0\nbegun | {begun}\nclosed | {closed}")?;
+        writeln!(self.text, "begun | {begun}\nclosed | {closed}")?;
         Ok(())
     }
 }

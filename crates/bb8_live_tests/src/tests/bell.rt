@@ -4,7 +4,8 @@ use bb8_lock::Bell;
 use std::test::Fail;
 use std::time::{Clock, Duration};
 
-/// A ring after the count was read ends the sleep that follows at once, which would last ten seconds.
+/// A ring after the count was read ends the sleep that follows at once, which would last ten
+/// seconds.
 #[test]
 fn ring_before_the_sleep_is_not_lost(rt: HostRuntime) -> Result<(), Fail> {
     let bell = Bell::new();

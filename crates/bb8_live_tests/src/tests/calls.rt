@@ -1,10 +1,12 @@
-//! How often, and in which order, each call outside is made; and that none is made under the pool's lock, nor a connection dropped that a
-//! call closed: in each of them another thread is answered by the pool.
+//! How often, and in which order, each call outside is made; and that none is made under the pool's
+//! lock, nor a connection dropped that a call closed: in each of them another thread is answered by
+//! the pool.
 ghost use Rattle.std.specs.Prelude.{Some, false};
 ghost use Rattle.bb8.specs.Parts.{IsBlankOf};
 ghost use Rattle.bb8.specs.Settings.{default_settings};
 
 mod blocking;
+mod retiring;
 
 use super::assert_equal;
 use bb8::{
@@ -23,17 +25,20 @@ use std::test::Fail;
 use std::thread::{self, Threads};
 use std::time::Duration;
 
-/// The calls outside, and the drops of a connection and of what is under way. What is written down of one is its place here.
+/// The calls outside, and the drops of a connection and of what is under way. What is written down
+/// of one is its place here.
 const CALLS: &str =
     "now connect poll_connect on_acquire poll_acquire is_valid poll_valid has_broken sink dropped ended";
 
-/// So many calls are written down between two looks; of those after them it is known that they were made.
+/// So many calls are written down between two looks; of those after them it is known that they were
+/// made.
 const WRITTEN: usize = 16;
 
 /// At this stage the other thread is to end.
 const ENDED: u64 = 3;
 
-/// What a test shares with its pool's manager, customizer, sink and clock, and with the connections.
+/// What a test shares with its pool's manager, customizer, sink and clock, and with the
+/// connections.
 #[derive(Drop)]
 pub(super) struct Desk {
     /// How many calls were made since the last look, and which the first of them were.
@@ -41,7 +46,8 @@ pub(super) struct Desk {
     calls: Vec<Number>,
     /// How often a test looked.
     looks: Number,
-    /// While a call waits, the other thread's own reading of the clock does not wait and is not written down.
+    /// While a call waits, the other thread's own reading of the clock does not wait and is not
+    /// written down.
     pub(super) stage: Number,
     /// How many calls waited, and how many in vain.
     pub(super) waited: Number,
@@ -51,7 +57,8 @@ pub(super) struct Desk {
     polled_at: Number,
     /// By how much each reading sets the clock on first.
     step: Number,
-    /// What comes of openings, preparations and checks: 0 passes, 1 lasts, 2 fails. A check that is to last once, 3, passes then.
+    /// What comes of openings, preparations and checks: 0 passes, 1 lasts, 2 fails. A check that is
+    /// to last once, 3, passes then.
     pub(super) opening: Number,
     preparing: Number,
     check: Number,
@@ -351,7 +358,8 @@ impl<R: Runtime + Abort> Tools<'_, R> {
     }
 }
 
-/// A get that is served, one that is checked for long, one that times out then, and one whose connection is found broken as it is let go.
+/// A get that is served, one that is checked for long, one that times out then, and one whose
+/// connection is found broken as it is let go.
 fn checked<R: Runtime + Abort, L: PoolParts>(
     tools: &Tools<'_, R>,
     pool: &TellerPool<R, L>,
@@ -386,7 +394,8 @@ fn checked<R: Runtime + Abort, L: PoolParts>(
     Ok(())
 }
 
-/// Gets that wait: one is let go, one times out; and gets whose check fails: one is let go then, and one waits and is served.
+/// Gets that wait: one is let go, one times out; and gets whose check fails: one is let go then,
+/// and one waits and is served.
 fn waiting<R: Runtime + Abort, L: PoolParts>(
     tools: &Tools<'_, R>,
     pool: &TellerPool<R, L>,
@@ -428,7 +437,8 @@ fn waiting<R: Runtime + Abort, L: PoolParts>(
     Ok(())
 }
 
-/// Gets with a handle of their own: one that is not polled, one that is served, and one that is let go while it is checked.
+/// Gets with a handle of their own: one that is not polled, one that is served, and one that is let
+/// go while it is checked.
 fn owned<R: Runtime + Abort, L: PoolParts>(
     tools: &Tools<'_, R>,
     pool: &TellerPool<R, L>,
@@ -453,7 +463,8 @@ fn owned<R: Runtime + Abort, L: PoolParts>(
     Ok(())
 }
 
-/// Connections that the pool does not count: opened and prepared slowly; failing as it is opened, or prepared; let go as it is prepared.
+/// Connections that the pool does not count: opened and prepared slowly; failing as it is opened,
+/// or prepared; let go as it is prepared.
 fn dedicated<R: Runtime + Abort, L: PoolParts>(tools: &Tools<'_, R>, pool: &TellerPool<R, L>) {
     let desk = tools.desk;
     let mut opening = pool.dedicated_connection();
@@ -498,7 +509,8 @@ fn dedicated<R: Runtime + Abort, L: PoolParts>(tools: &Tools<'_, R>, pool: &Tell
     desk.preparing.set(0);
 }
 
-/// Whatever connections are idle are closed as their checks fail, and a get waits and is let go: one approval is open.
+/// Whatever connections are idle are closed as their checks fail, and a get waits and is let go:
+/// one approval is open.
 fn approve<R: Runtime + Abort, L: PoolParts>(tools: &Tools<'_, R>, pool: &TellerPool<R, L>) {
     tools.desk.check.set(2);
     let mut get = pool.get();
@@ -510,8 +522,8 @@ fn approve<R: Runtime + Abort, L: PoolParts>(tools: &Tools<'_, R>, pool: &Teller
     tools.desk.made.set(0);
 }
 
-/// Turns, which read no clock: one connection is opened and prepared slowly, one opening fails, and one preparation; and a driver that is
-/// dropped with what it prepares.
+/// Turns, which read no clock: one connection is opened and prepared slowly, one opening fails, and
+/// one preparation; and a driver that is dropped with what it prepares.
 fn turns<R: Runtime + Abort, L: PoolParts>(
     tools: &Tools<'_, R>,
     pool: &TellerPool<R, L>,
@@ -598,6 +610,7 @@ fn calls_with_checks<R: Runtime + Abort, L: PoolParts>(
 ) -> Result<(), Memory> {
     let desk = tools.desk;
     let driver = Driver::new(pool)?;
+    retiring::retired(tools, pool)?;
     checked(tools, pool)?;
     waiting(tools, pool)?;
     owned(tools, pool)?;
@@ -615,7 +628,8 @@ fn calls_with_checks<R: Runtime + Abort, L: PoolParts>(
     Ok(())
 }
 
-/// The calls of a pool, each of which waits, where that is asked for, until another thread was answered.
+/// The calls of a pool, each of which waits, where that is asked for, until another thread was
+/// answered.
 fn calls_of_a_pool<R: Runtime + Abort + Threads, L: PoolParts + 'static>(
     rt: R,
     blank: Blank,
@@ -673,8 +687,8 @@ fn calls_of_a_pool<R: Runtime + Abort + Threads, L: PoolParts + 'static>(
     Ok(())
 }
 
-/// The polls of a building, which opens two connections: it comes to its end, is let go, or fails. Then its pool is left, whose gets are not
-/// checked.
+/// The polls of a building, which opens two connections: it comes to its end, is let go, or fails.
+/// Then its pool is left, whose gets are not checked.
 fn calls_of_a_building<R: Runtime + Abort, B: Unbuilt<Teller>>(
     tools: &Tools<'_, R>,
     building: B,

@@ -9,7 +9,8 @@ use std::test::Fail;
 /// It may go to another thread.
 fn is_sent<T: Send>(_: &T) {}
 
-/// A pool is printed without its parts, a guard as its connection, and an owned one is read and written as it; it may go to another thread, as its get may.
+/// A pool is printed without its parts, a guard as its connection, and an owned one is read and
+/// written as it; it may go to another thread, as its get may.
 pub(super) fn derefs<R: Runtime + Abort, L: PoolParts>(
     rt: R,
     numbers: NumberTrial<R, L>,

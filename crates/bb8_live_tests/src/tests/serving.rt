@@ -82,7 +82,8 @@ impl<R: Runtime + Abort> Service<SlowManager, NopErrorSink, NopCustomizer, SetCl
     }
 }
 
-/// Four threads over a pool of one connection, which is added, so that the pool's driver opens none.
+/// Four threads over a pool of one connection, which is added, so that the pool's driver opens
+/// none.
 fn serve_four<R: Runtime + Abort + Threads + Clock>(
     rt: R,
     service: &CallCounter<R>,

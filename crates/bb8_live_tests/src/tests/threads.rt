@@ -27,7 +27,8 @@ fn twice(rt: &impl Threads, job: &(impl TestJob + Sync)) -> (bool, bool) {
     join(rt, || job.run(), || job.run())
 }
 
-/// Whether who just got a connection is its one holder, who then lets it go: a held one is broken, whoever asks.
+/// Whether who just got a connection is its one holder, who then lets it go: a held one is broken,
+/// whoever asks.
 fn is_alone(connection: &mut ServerConnection) -> bool {
     if connection.is_broken {
         return false;
@@ -38,8 +39,8 @@ fn is_alone(connection: &mut ServerConnection) -> bool {
     true
 }
 
-/// A thousand gets, each of which is given back before the next. With handles of their own, each is a get of another handle, which is made
-/// for it and dropped before the guard.
+/// A thousand gets, each of which is given back before the next. With handles of their own, each is
+/// a get of another handle, which is made for it and dropped before the guard.
 #[derive(Drop)]
 struct Repeating<'a, R: Runtime + Abort, L: PoolParts> {
     pool: &'a ServerPool<SetClock, R, L>,
@@ -74,8 +75,9 @@ impl<R: Runtime + Abort, L: PoolParts> TestJob for Repeating<'_, R, L> {
     }
 }
 
-/// A thousand rounds, in each of which the clock moves, a connection is added where there is room, the state is read, a get is let go after
-/// a poll, and one is served, whose connection nobody else may hold.
+/// A thousand rounds, in each of which the clock moves, a connection is added where there is room,
+/// the state is read, a get is let go after a poll, and one is served, whose connection nobody else
+/// may hold.
 #[derive(Drop)]
 struct Mixed<'a, R: Runtime + Abort, L: PoolParts> {
     pool: &'a ServerPool<SetClock, R, L>,
@@ -129,7 +131,8 @@ fn shares_all<R: Runtime + Abort + Threads, L: PoolParts>(
     assert_equal(&rt, pool.state().statistics.get_started, 4000);
 }
 
-/// Two threads share a pool of so many connections in gets alone, with handles of their own or without.
+/// Two threads share a pool of so many connections in gets alone, with handles of their own or
+/// without.
 fn shares_gets<R: Runtime + Abort + Threads, L: PoolParts>(
     rt: R,
     pool: &ServerPool<SetClock, R, L>,
@@ -159,7 +162,8 @@ enum SharedBy {
     Gets { owned: bool },
 }
 
-/// Two threads share a pool. Each connection is checked before it is lent, or none. At the end all are idle, and none was closed.
+/// Two threads share a pool. Each connection is checked before it is lent, or none. At the end all
+/// are idle, and none was closed.
 fn shares<R: Runtime + Abort + Threads, L: PoolParts>(
     rt: R,
     blank: Blank,

@@ -74,7 +74,8 @@ fn calls<R: Runtime + Abort, L: PoolParts>(
     Ok(())
 }
 
-/// A thread reaps, and the drop of what it closes waits, under the lock, until all calls were made that take no lock.
+/// A thread reaps, and the drop of what it closes waits, under the lock, until all calls were made
+/// that take no lock.
 fn waits_for_nobody<R: Runtime + Abort + Threads, L: PoolParts + 'static>(
     rt: R,
     blank: Blank,

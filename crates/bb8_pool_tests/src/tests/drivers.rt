@@ -24,8 +24,8 @@ fn is_send_sync(_rt: HostRuntime) {
     is_shared::<ServerPool<SetClock, HostRuntime, Brand>>();
 }
 
-/// A run in a thread of its own, whose gate does not pause: one turn, which opens both first connections, or ends as the pool was dropped. The
-/// pool's own runtime has no threads.
+/// A run in a thread of its own, whose gate does not pause: one turn, which opens both first
+/// connections, or ends as the pool was dropped. The pool's own runtime has no threads.
 fn drives<R: Runtime + Abort, L: PoolParts + 'static>(
     rt: R,
     threads: &impl Threads,
@@ -80,8 +80,9 @@ fn driven_until_its_pool_ends(rt: HostRuntime) -> Result<(), Fail> {
     Ok(())
 }
 
-/// A driver's thread hangs in the poll of an opening. Meanwhile `state` is answered in the test's own thread, and another driver opens the
-/// connection that a second get asks for, which serves the first one.
+/// A driver's thread hangs in the poll of an opening. Meanwhile `state` is answered in the test's
+/// own thread, and another driver opens the connection that a second get asks for, which serves the
+/// first one.
 fn answers_meanwhile<R: Runtime + Abort + Threads, L: PoolParts + 'static>(
     rt: R,
     blank: Blank,

@@ -1,4 +1,5 @@
-//! Many polls of all that a pool lends, and turns of its driver, at random, with parts that change their answers at every call.
+//! Many polls of all that a pool lends, and turns of its driver, at random, with parts that change
+//! their answers at every call.
 ghost use Rattle.std.specs.Prelude.{Some};
 ghost use Rattle.bb8.specs.Parts.{IsBlankOf};
 ghost use Rattle.bb8.specs.Settings.{default_settings};
@@ -32,7 +33,8 @@ const MAX_SIZE: u32 = 6;
 /// How many gets are alive at a time.
 const MOST_GETS: usize = 6;
 
-/// The row of the seed 1234567 begins with these numbers, as others' programs by the same rule print it.
+/// The row of the seed 1234567 begins with these numbers, as others' programs by the same rule
+/// print it.
 #[test]
 fn numbers_of_a_seed(rt: HostRuntime) -> Result<(), Fail> {
     let source = RandomSource::new(rt.alloc(), 1_234_567)?;
@@ -164,7 +166,8 @@ impl<P: LentHandle<HostileManager> + Drop, R: Runtime, L: PoolParts> Field<'_, P
         }
     }
 
-    /// Polls the opening of a connection that the pool does not count, or begins one; one that was opened is added to the pool.
+    /// Polls the opening of a connection that the pool does not count, or begins one; one that was
+    /// opened is added to the pool.
     fn open(&mut self, task: &MockTask) {
         let Some(mut opening) = take_one(&mut self.openings, &self.harness.source) else {
             let _ = self.openings.push(self.pool.dedicated_connection());
@@ -263,7 +266,8 @@ fn fills<P: LentHandle<HostileManager>>(pool: P, harness: &Harness) -> bool {
     false
 }
 
-/// A pool is filled, and makes its steps. After each, it, the test and the connections count the same. Then all is let go.
+/// A pool is filled, and makes its steps. After each, it, the test and the connections count the
+/// same. Then all is let go.
 fn plays<P: LentHandle<HostileManager> + Drop, R: Runtime + Abort, L: PoolParts>(
     rt: &R,
     task: &MockTask,

@@ -146,7 +146,8 @@ impl<R: Runtime + CpuClock> Service<Server, Errors, NopCustomizer, MeteredClock<
     }
 }
 
-/// What the thread saw that rests so long, and how many nanoseconds after the service had ended `serve` answered.
+/// What the thread saw that rests so long, and how many nanoseconds after the service had ended
+/// `serve` answered.
 fn serve_resting<R: Runtime + CpuClock + Threads>(
     rt: R,
     rest: Duration,
@@ -183,7 +184,8 @@ fn serve_resting<R: Runtime + CpuClock + Threads>(
     }
 }
 
-/// A second with nothing to do takes the driver of a service less than 60 turns, and 10 milliseconds of a processor.
+/// A second with nothing to do takes the driver of a service less than 60 turns, and 10
+/// milliseconds of a processor.
 #[test]
 fn idle_driver_sleeps(rt: HostRuntime) -> Result<(), Fail> {
     let (Rested { turns, used, .. }, _) = serve_resting(rt, Duration::from_secs(1), false)?;
@@ -192,8 +194,9 @@ fn idle_driver_sleeps(rt: HostRuntime) -> Result<(), Fail> {
     Ok(())
 }
 
-/// A driver that only made turns by itself would come some 50 milliseconds after the one before, which all have just seen: the get that is
-/// granted an approval, the failed check that is, and the end of the pool. Of five the quickest is looked at.
+/// A driver that only made turns by itself would come some 50 milliseconds after the one before,
+/// which all have just seen: the get that is granted an approval, the failed check that is, and the
+/// end of the pool. Of five the quickest is looked at.
 #[test]
 fn grant_and_end_wake_the_driver(rt: HostRuntime) -> Result<(), Fail> {
     for check_fails in [false, true] {
@@ -248,8 +251,8 @@ impl<R: Runtime> User<Server, Errors, NopCustomizer, SetClock, R> for AsksDue<R>
     }
 }
 
-/// The first tick, half a minute after the pool was made; the second try, 400 milliseconds after the first one failed; at once, while it is
-/// pending; and the tick again.
+/// The first tick, half a minute after the pool was made; the second try, 400 milliseconds after
+/// the first one failed; at once, while it is pending; and the tick again.
 #[test]
 fn next_due_is_the_earliest(rt: HostRuntime) -> Result<(), Fail> {
     let board = Board::new(rt.alloc())?;

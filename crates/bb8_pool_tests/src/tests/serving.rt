@@ -1,4 +1,5 @@
-//! A service over a pool whose first connection cannot be opened, or late; and one whose driver has to turn, and to end.
+//! A service over a pool whose first connection cannot be opened, or late; and one whose driver has
+//! to turn, and to end.
 ghost use Rattle.std.specs.Prelude.{◌≡◌, true};
 ghost use Rattle.bb8.specs.Settings.{is_lawful};
 
@@ -44,7 +45,8 @@ impl<R: Runtime> Service<Server, Errors, NopCustomizer, SetClock, R> for BeginCo
     }
 }
 
-/// The server's error is the answer and not the sink's, its opening is not tried again, and the service does not begin.
+/// The server's error is the answer and not the sink's, its opening is not tried again, and the
+/// service does not begin.
 #[test]
 fn first_connection_that_fails_ends_a_serve(rt: HostRuntime) -> Result<(), Fail> {
     let board = Board::new(rt.alloc())?;
@@ -80,7 +82,8 @@ impl<R: Runtime> PoolClock for LastingClock<R> {
     }
 }
 
-/// Has two connections at once. Each get asks for an opening, which a turn of the driver after that has to make.
+/// Has two connections at once. Each get asks for an opening, which a turn of the driver after that
+/// has to make.
 #[derive(Drop)]
 struct TwoAtOnce<R> {
     rt: R,
@@ -150,8 +153,9 @@ fn serve_two<R: Runtime + Threads>(
     ))
 }
 
-/// The driver makes turns while the service runs, the next one in less than half a second, and its thread has let the pool go as the service's
-/// answer is there: nobody else then has what the server counts on. Its end lasts longer than the pool's, by two readings of the clock to one.
+/// The driver makes turns while the service runs, the next one in less than half a second, and its
+/// thread has let the pool go as the service's answer is there: nobody else then has what the
+/// server counts on. Its end lasts longer than the pool's, by two readings of the clock to one.
 #[test]
 fn driver_of_a_service_turns_on_and_ends(rt: HostRuntime) -> Result<(), Fail> {
     let board = Board::new(rt.alloc())?;
@@ -188,7 +192,8 @@ impl<R: Runtime + Abort> Job for Watch<R> {
     }
 }
 
-/// The answer comes also where handles are left over, with which the pool's driver would turn for ever.
+/// The answer comes also where handles are left over, with which the pool's driver would turn for
+/// ever.
 #[test]
 fn driver_of_a_service_ends_beside_handles(rt: HostRuntime) -> Result<(), Fail> {
     let board = Board::new(rt.alloc())?;
@@ -207,7 +212,8 @@ fn driver_of_a_service_ends_beside_handles(rt: HostRuntime) -> Result<(), Fail> 
     Ok(())
 }
 
-/// What a start of a service of two connections at once answers, and the nanoseconds that it takes, and those of a processor.
+/// What a start of a service of two connections at once answers, and the nanoseconds that it takes,
+/// and those of a processor.
 #[derive(Drop)]
 struct Started {
     answer: Result<Option<(u64, u64)>, RunError<Refused>>,
@@ -231,8 +237,9 @@ fn time_start<R: Runtime + CpuClock + Threads>(
     })
 }
 
-/// A server that is down is tried for a second and more, for which the thread that waits uses less than 50 milliseconds of a processor; and less
-/// than a third of it for one whose first opening lasts half a second, in some 500 polls. One that polled without a pause would use all of it.
+/// A server that is down is tried for a second and more, for which the thread that waits uses less
+/// than 50 milliseconds of a processor; and less than a third of it for one whose first opening
+/// lasts half a second, in some 500 polls. One that polled without a pause would use all of it.
 #[test]
 fn first_connections_are_awaited_asleep(rt: HostRuntime) -> Result<(), Fail> {
     let board = Board::new(rt.alloc())?;

@@ -2,8 +2,8 @@
 
 use super::assert_equal;
 use bb8::{
-    Driver, Gets, MachineClock, NopCustomizer, PoolCalls, PoolParts, RunError, Runtime, Service,
-    User,
+    Detach, Driver, Gets, MachineClock, NopCustomizer, PoolCalls, PoolParts, RunError, Runtime,
+    Service, User,
 };
 use bb8_trials::{
     Board, Course, Errors, Number, Server, ServerPool, builder_on, connection_on, server_on,
@@ -32,6 +32,10 @@ enum Cause {
     Adding,
     /// The connection comes back to a get that nobody polls, which is let go 20 milliseconds later.
     HandOn,
+    /// The connection is detached, and another one can be opened.
+    Detach,
+    /// The pool is closed.
+    Close,
 }
 
 /// Who waits, and for what.
@@ -109,7 +113,8 @@ trait Waits<R: Runtime> {
         thread: usize,
     ) -> Option<Waited>;
 
-    /// What is told where the get was served just now, before which so much processor time was used. It is held again where that is wanted.
+    /// What is told where the get was served just now, before which so much processor time was
+    /// used. It is held again where that is wanted.
     fn served(&self, before: u64) -> Waited;
 }
 
@@ -135,6 +140,19 @@ impl<R: Runtime + CpuClock> Waits<R> for Waiting<R> {
                 self.cause();
                 drop(first);
                 return Some(NOBODY);
+            }
+            Cause::Detach => {
+                self.board.opening.set(Course::Passes);
+                self.cause();
+                let detached = guard.detach();
+                self.sleep(self.trial.hold);
+                drop(detached);
+                return Some(NOBODY);
+            }
+            Cause::Close => {
+                self.cause();
+                pool.close(self.rt.alloc());
+                self.sleep(self.trial.hold);
             }
         }
         drop(guard);
@@ -169,6 +187,12 @@ impl<R: Runtime + CpuClock> Waits<R> for Waiting<R> {
             let waited = self.served(before);
             drop(guard);
             return Some(waited);
+        }
+        if let Cause::Close = self.trial.cause {
+            let RunError::TimedOut = pool.get_blocking().err()? else {
+                return None;
+            };
+            return Some(self.served(before));
         }
         let guard = pool.get_blocking().ok()?;
         let waited = self.served(before);
@@ -276,8 +300,9 @@ fn quickest<R: Runtime + CpuClock + Threads>(rt: R, trial: Trial) -> Result<u64,
     Ok(least)
 }
 
-/// Four threads wait for a second, and three of them, as the bell was rung in between, for one more: they use less than 40 milliseconds of a
-/// processor. One that did not sleep, be it from that ring on, would use the most of a second.
+/// Four threads wait for a second, and three of them, as the bell was rung in between, for one
+/// more: they use less than 40 milliseconds of a processor. One that did not sleep, be it from that
+/// ring on, would use the most of a second.
 #[test]
 fn waiting_threads_sleep(rt: HostRuntime) -> Result<(), Fail> {
     let trial = Trial {
@@ -301,8 +326,8 @@ fn return_wakes_who_waits(rt: HostRuntime) -> Result<(), Fail> {
     Ok(())
 }
 
-/// So does what else may serve a get. What the one let go hands on comes 20 milliseconds after the return, which has rung the bell, and so 30
-/// before the next poll.
+/// So does what else may serve a get. What the one let go hands on comes 20 milliseconds after the
+/// return, which has rung the bell, and so 30 before the next poll.
 #[test]
 fn adding_and_a_turn_handed_on_wake_who_waits(rt: HostRuntime) -> Result<(), Fail> {
     for cause in [Cause::Adding, Cause::HandOn] {
@@ -312,8 +337,28 @@ fn adding_and_a_turn_handed_on_wake_who_waits(rt: HostRuntime) -> Result<(), Fai
     Ok(())
 }
 
-/// Two threads wait, and the second begins 25 milliseconds after the first, so it has slept longer where the connection comes back after 62: the
-/// first one has polled in between. That one's turn it is. A ring that woke but the other would have it come at its next poll, at 100.
+/// A detached connection wakes who waits, who then asks for another one, which the driver opens.
+#[test]
+fn detached_connection_wakes_who_waits(rt: HostRuntime) -> Result<(), Fail> {
+    let cause = Cause::Detach;
+    let least = quickest(rt, Trial { cause, ..ONE })?;
+    assert!(&rt; least < 15_000_000, "{least} nanoseconds");
+    Ok(())
+}
+
+/// A thread that waits in a pool that is closed times out at once, and not after the 30 seconds of
+/// its pool.
+#[test]
+fn close_wakes_who_waits(rt: HostRuntime) -> Result<(), Fail> {
+    let cause = Cause::Close;
+    let least = quickest(rt, Trial { cause, ..ONE })?;
+    assert!(&rt; least < 15_000_000, "{least} nanoseconds");
+    Ok(())
+}
+
+/// Two threads wait, and the second begins 25 milliseconds after the first, so it has slept longer
+/// where the connection comes back after 62: the first one has polled in between. That one's turn
+/// it is. A ring that woke but the other would have it come at its next poll, at 100.
 #[test]
 fn return_wakes_the_one_whose_turn_it_is(rt: HostRuntime) -> Result<(), Fail> {
     let trial = Trial {
@@ -363,7 +408,8 @@ impl<R: Runtime> User<Server, Errors, NopCustomizer, MachineClock<R>, R> for InV
     }
 }
 
-/// A get that is not served times out once its time has passed, the pool's or its own, and not before.
+/// A get that is not served times out once its time has passed, the pool's or its own, and not
+/// before.
 #[test]
 fn wait_ends_at_its_deadline(rt: HostRuntime) -> Result<(), Fail> {
     let board = Board::new(rt.alloc())?;

@@ -1,5 +1,6 @@
-//! A run over the bare state with checks that pass and fail, gets that are let go, addings and reaps: no connection is lost, whatever
-//! requests for memory are refused. That each answer is allowed is proved.
+//! A run over the bare state with checks that pass and fail, gets that are let go, addings and
+//! reaps: no connection is lost, whatever requests for memory are refused. That each answer is
+//! allowed is proved.
 
 use super::{assert_equal, is_refused_afterwards, make};
 use bb8_core::api::{Config, Moment};
@@ -66,7 +67,8 @@ impl Run {
             .saturating_sub(self.board.closed.get())
     }
 
-    /// Asserts that the connections that were made are those of the pool and those that were dropped.
+    /// Asserts that the connections that were made are those of the pool and those that were
+    /// dropped.
     fn assert_whole(&mut self, rt: &impl Abort) {
         let state = self.pool.state(self.at);
         assert_equal(&rt, state.connections as u64, self.alive());
@@ -205,8 +207,8 @@ impl Run {
         Ok(())
     }
 
-    /// A second later all that is idle but for one is reaped, as it is idle too long, and after a second more that one, as it lives too
-    /// long.
+    /// A second later all that is idle but for one is reaped, as it is idle too long, and after a
+    /// second more that one, as it lives too long.
     fn reaps(&mut self, rt: &impl Abort) {
         for _ in 0..2 {
             self.at = Moment(self.at.0.saturating_add(1_000_000_000));
@@ -220,7 +222,8 @@ impl Run {
         assert_equal(&rt, self.pool.state(self.at).connections, 0);
     }
 
-    /// Each end once, beside a get that began before and waits; then two are added, and all that is idle is reaped.
+    /// Each end once, beside a get that began before and waits; then two are added, and all that is
+    /// idle is reaped.
     fn round(&mut self, rt: &impl Abort) -> Result<(), Fail> {
         let waits = self.begin(rt);
         if let Some(get) = waits {

@@ -1,4 +1,5 @@
-//! Worked rows in which memory is refused, once or for good: the answers before, at and after the refusal.
+//! Worked rows in which memory is refused, once or for good: the answers before, at and after the
+//! refusal.
 
 use super::{assert_equal, is_refused, is_refused_afterwards};
 use bb8_core::api::{Config, Moment};
@@ -27,7 +28,8 @@ fn withheld(first: u64, count: u32) -> Grant {
     }
 }
 
-/// A bare state that checks nothing, how many requests for memory it was refused, and whether memory stays refused.
+/// A bare state that checks nothing, how many requests for memory it was refused, and whether
+/// memory stays refused.
 #[derive(Drop)]
 struct PlayedRow {
     pool: PoolInternals<u64>,
@@ -86,8 +88,8 @@ impl PlayedRow {
         assert_equal(rt, self.answer(act), answer);
     }
 
-    /// An event is answered so; where it is refused memory nothing changes, and it is answered so at the next ask, unless memory stays
-    /// refused. Whether it came to be.
+    /// An event is answered so; where it is refused memory nothing changes, and it is answered so
+    /// at the next ask, unless memory stays refused. Whether it came to be.
     fn tries(&mut self, rt: &impl Abort, act: Act, answer: Answer, refusal: Answer) -> bool {
         let before = self.pool.state(NOW);
         let first = self.answer(act);
@@ -107,8 +109,8 @@ impl PlayedRow {
     }
 }
 
-/// Tells of a row in which nothing was refused, and of one in which memory was refused where the row says so. Nothing is told of one that
-/// ended before, for want of memory.
+/// Tells of a row in which nothing was refused, and of one in which memory was refused where the
+/// row says so. Nothing is told of one that ended before, for want of memory.
 fn tell<R: Abort + AllocGlobal + Eprint>(rt: &R, row: &PlayedRow, is_row: Option<bool>) {
     if is_row == Some(true) {
         let _ = rt.eprintln("memory was refused where the row says so");
@@ -119,7 +121,8 @@ fn tell<R: Abort + AllocGlobal + Eprint>(rt: &R, row: &PlayedRow, is_row: Option
     }
 }
 
-/// Two are added, and one of them is closed; the next is below the peak, and one more is past it. Whether memory was refused there.
+/// Two are added, and one of them is closed; the next is below the peak, and one more is past it.
+/// Whether memory was refused there.
 fn is_withheld_past_the_peak(rt: &impl Abort, row: &mut PlayedRow) -> Option<bool> {
     if !(row.adds(rt, 0) && row.adds(rt, 1)) {
         return None;
@@ -140,8 +143,8 @@ fn is_withheld_past_the_peak(rt: &impl Abort, row: &mut PlayedRow) -> Option<boo
     Some(row.refused > before)
 }
 
-/// Two are opened, and a get is served, which asks for a third place; what is not granted there is asked for by the next get. Whether memory
-/// was refused for the third place.
+/// Two are opened, and a get is served, which asks for a third place; what is not granted there is
+/// asked for by the next get. Whether memory was refused for the third place.
 fn is_third_place_withheld(rt: &impl Abort, row: &mut PlayedRow) -> Option<bool> {
     let (two, none) = (granted(0, 2), withheld(0, 2));
     if !row.tries(
@@ -178,8 +181,9 @@ fn is_third_place_withheld(rt: &impl Abort, row: &mut PlayedRow) -> Option<bool>
     Some(is_row)
 }
 
-/// The row `third_adding_withheld`: two connections are added, one is served and comes back broken, and a third is added, for which there
-/// is room below the peak; a fourth is withheld where its request for memory is refused, and added at the next ask.
+/// The row `third_adding_withheld`: two connections are added, one is served and comes back broken,
+/// and a third is added, for which there is room below the peak; a fourth is withheld where its
+/// request for memory is refused, and added at the next ask.
 #[test]
 fn adding_is_withheld_past_the_peak_alone(rt: HostRuntime) {
     let mut row = PlayedRow::new(&rt, rt.alloc(), 3, None);

@@ -1,5 +1,5 @@
-//! Connections so large that no machine has memory for all that a pool wants at once: refusals that come about in each run of the tests.
-//! A pool of 4,294,967,295 of them would take 35 terabytes.
+//! Connections so large that no machine has memory for all that a pool wants at once: refusals that
+//! come about in each run of the tests. A pool of 4,294,967,295 of them would take 35 terabytes.
 
 use super::assert_equal;
 use bb8_core::api::{Config, Moment};
@@ -40,7 +40,8 @@ fn part(first: u64, count: u32, withheld: u32) -> Grant {
     }
 }
 
-/// A connection is added, which is to have this number; where memory is refused, it is added at the next ask.
+/// A connection is added, which is to have this number; where memory is refused, it is added at the
+/// next ask.
 fn adds(rt: &impl Abort, pool: &mut PoolInternals<Vast>, number: u64) {
     for _ in 0..2 {
         match pool.add(NOW, Vast::new(number), false) {
@@ -65,8 +66,8 @@ fn begins(rt: &impl Abort, pool: &mut PoolInternals<Vast>) -> GetKey {
     panic!(rt; "no get began");
 }
 
-/// A grant of nearly 4,294,967,295 is withheld, two connections are added one by one, and once one of them is closed one approval is
-/// granted, below the peak.
+/// A grant of nearly 4,294,967,295 is withheld, two connections are added one by one, and once one
+/// of them is closed one approval is granted, below the peak.
 #[test]
 fn vast_grants_are_withheld_past_the_peak(rt: HostRuntime) {
     let config = Config {
@@ -88,7 +89,8 @@ fn vast_grants_are_withheld_past_the_peak(rt: HostRuntime) {
         panic!(&rt; "it was not served");
     };
     assert_equal(&rt, (conn.words[0], grant), (0, part(2, 0, MANY - 2)));
-    // The idle one has lived too long. Then one place is free below the peak: for that one no memory is needed.
+    // The idle one has lived too long. Then one place is free below the peak: for that one no
+    // memory is needed.
     let ReapAnswer::Reaped {
         closed,
         by_life,

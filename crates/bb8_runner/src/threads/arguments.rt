@@ -24,8 +24,8 @@ fn threads_of(count: u64) -> Option<Mode>
     }
 }
 
-/// What the words after the program's name ask for: no word, or `threads` and a number from 1 to 64, which is read as in a script. None
-/// where they are none of these.
+/// What the words after the program's name ask for: no word, or `threads` and a number from 1 to
+/// 64, which is read as in a script. None where they are none of these.
 pub fn arguments(words: &[String]) -> Option<Mode>
     ensures mode { result ≡ arguments_of (map string_bytes words.now) }
     ensures threads { (n : ℕ) → result ≡ Some (Threads n) → (1 ≤ n) × (n ≤ 64) }

@@ -24,7 +24,8 @@ pub struct Dealt {
     pub notes: Vec<Notes>,
 }
 
-/// Makes the events of one seat, in order. Where there is no room for one, it says so and stops; and it stops where another said so.
+/// Makes the events of one seat, in order. Where there is no room for one, it says so and stops;
+/// and it stops where another said so.
 fn make_own<R: Wait, L: Recorded>(
     rt: &R,
     journal: &SharedJournal<L>,
@@ -46,8 +47,9 @@ fn make_own<R: Wait, L: Recorded>(
     seat
 }
 
-/// Makes the events of each seat in a thread of its own, and gives the seats back once all threads ended. `Memory` comes where a thread
-/// could not be started, or memory for the lists of threads and of seats was refused; then the threads that run stop early.
+/// Makes the events of each seat in a thread of its own, and gives the seats back once all threads
+/// ended. `Memory` comes where a thread could not be started, or memory for the lists of threads
+/// and of seats was refused; then the threads that run stop early.
 fn in_threads<R: Threads + Wait + Sync, L: Recorded + Send + Sync>(
     rt: &R,
     alloc: Global,
@@ -82,8 +84,9 @@ fn in_threads<R: Threads + Wait + Sync, L: Recorded + Send + Sync>(
     )
 }
 
-/// Deals the events to as many threads as the blank ledger has parts, over one journal of the configuration. `Memory` comes where
-/// memory was refused, `NoRoom` included, and where a thread could not be started.
+/// Deals the events to as many threads as the blank ledger has parts, over one journal of the
+/// configuration. `Memory` comes where memory was refused, `NoRoom` included, and where a thread
+/// could not be started.
 pub fn deal<R: Threads + Wait + Sync, L: Recorded + Send + Sync>(
     rt: &R,
     alloc: Global,

@@ -59,12 +59,13 @@ fn answer<H: Threads + Wait + Sync>(
     }
 }
 
-/// Reads a script to its end, deals its events to so many threads over one journal, event i, from 0, to thread i mod `threads`, and writes
-/// how many entries the history has, whether the notes of the threads account for it, and the state that it ended in; or which line is
-/// the first bad one.
+/// Reads a script to its end, deals its events to so many threads over one journal, event i, from
+/// 0, to thread i mod `threads`, and writes how many entries the history has, whether the notes of
+/// the threads account for it, and the state that it ended in; or which line is the first bad one.
 ///
-/// `Read` comes where a read failed, `Write` where a write failed, and `Memory` where memory was refused, also for an entry. Nothing is
-/// written before the whole input was read and judged, so only after `Write` may a beginning of the output have gone out.
+/// `Read` comes where a read failed, `Write` where a write failed, and `Memory` where memory was
+/// refused, also for an entry. Nothing is written before the whole input was read and judged, so
+/// only after `Write` may a beginning of the output have gone out.
 pub fn run_threads<H: Threads + Wait + Sync, R: Source, W: Sink>(
     rt: &H,
     alloc: Global,

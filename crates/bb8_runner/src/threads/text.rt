@@ -8,7 +8,8 @@ use bb8_core::api::State;
 use std::alloc::{AllocError, Global};
 use std::fmt::Write;
 
-/// How many entries there are, what the audit says, and the state line. Err where memory was refused.
+/// How many entries there are, what the audit says, and the state line. Err where memory was
+/// refused.
 pub fn dealt_text(
     alloc: Global,
     entries: usize,

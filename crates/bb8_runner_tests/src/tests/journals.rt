@@ -1,4 +1,5 @@
-//! Tests against values from outside: rows that were worked out by hand, audits that must say no, and refused memory.
+//! Tests against values from outside: rows that were worked out by hand, audits that must say no,
+//! and refused memory.
 
 use super::assert_equal;
 use bb8_core::api::{Config, Moment};

@@ -1,4 +1,5 @@
-//! Scripts from bytes to bytes: what no transcript can tell, as faults of streams, how a script ended, and bytes that do not show.
+//! Scripts from bytes to bytes: what no transcript can tell, as faults of streams, how a script
+//! ended, and bytes that do not show.
 
 use super::assert_equal;
 use bb8_runner::fault::Fault;

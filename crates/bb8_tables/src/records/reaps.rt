@@ -1,4 +1,5 @@
-//! The reap of idle connections, by two walks: along the line of the idle, and along the order of births.
+//! The reap of idle connections, by two walks: along the line of the idle, and along the order of
+//! births.
 ghost use Rattle.std.specs.Prelude.{◌≡◌, ◌≤◌, ◌<◌, ◌+◌, ◌-◌, ◌++◌, ℕ, List, Some, length, slice_get, false};
 ghost use Rattle.std.specs.Bool.{MatchBool};
 ghost use Rattle.std.specs.Option.{option_map};
@@ -107,7 +108,8 @@ fn pass_birth<C: Drop>(
 }
 
 impl<C: Drop> Records<C> {
-    /// Ends the idle connection that entered first, where it is idle too long, and tells whether. One entry is lent, where one is idle.
+    /// Ends the idle connection that entered first, where it is idle too long, and tells whether.
+    /// One entry is lent, where one is idle.
     fn reap_first(
         &mut self,
         config: &Config,
@@ -136,8 +138,9 @@ impl<C: Drop> Records<C> {
         true
     }
 
-    /// Ends the connections that are idle too long, from the one that entered first to the first that is not, but spares `min_idle` idle
-    /// ones. An entry is lent for each of them, and at most one more; none where no limit is set.
+    /// Ends the connections that are idle too long, from the one that entered first to the first
+    /// that is not, but spares `min_idle` idle ones. An entry is lent for each of them, and at most
+    /// one more; none where no limit is set.
     fn reap_idle(
         &mut self,
         config: &Config,
@@ -165,8 +168,9 @@ impl<C: Drop> Records<C> {
         many
     }
 
-    /// Ends the idle connections that live too long, from the one that was born first to the first that does not, and passes those that are
-    /// out. An entry is lent for each of both, and at most one more; none where no limit is set.
+    /// Ends the idle connections that live too long, from the one that was born first to the first
+    /// that does not, and passes those that are out. An entry is lent for each of both, and at most
+    /// one more; none where no limit is set.
     fn reap_aged(
         &mut self,
         config: &Config,
@@ -202,8 +206,9 @@ impl<C: Drop> Records<C> {
         many
     }
 
-    /// Ends each idle connection that lives too long, and then those that are idle too long but for `min_idle`, the one that entered first
-    /// before the others, and offers them to a list. Entries are lent for those that end, for those that are out, and for two more at most.
+    /// Ends each idle connection that lives too long, and then those that are idle too long but for
+    /// `min_idle`, the one that entered first before the others, and offers them to a list. Entries
+    /// are lent for those that end, for those that are out, and for two more at most.
     pub fn reap(
         &mut self,
         config: &Config,

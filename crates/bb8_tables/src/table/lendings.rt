@@ -4,10 +4,13 @@ ghost use Rattle.bb8_tables.specs.Lent.{none_lent, begun, lends, searches};
 
 use std::marker::Model;
 
-/// How many entries of the tables were lent, and how often a table was searched, since the latest step began, and the sum of all that was
-/// counted, from which what was counted before is known. Each beginning adds one to that sum, so that one that tells of one step began its count once, and looked at nothing before.
-/// Outside of this file one comes of an `UncountedAccess`, or of another one (`begun`). An entry is lent each time what stands there is read or changed, found by its place, along an order or by
-/// its number; not where it is made or given away, nor where its neighbours are joined. A search is made where a hint is stale.
+/// How many entries of the tables were lent, and how often a table was searched, since the latest
+/// step began, and the sum of all that was counted, from which what was counted before is known.
+/// Each beginning adds one to that sum, so that one that tells of one step began its count once,
+/// and looked at nothing before. Outside of this file one comes of an `UncountedAccess`, or of
+/// another one (`begun`). An entry is lent each time what stands there is read or changed, found by
+/// its place, along an order or by its number; not where it is made or given away, nor where its
+/// neighbours are joined. A search is made where a hint is stale.
 #[derive(Drop)]
 pub struct Lendings {
     total: u64,
@@ -25,8 +28,9 @@ impl Model for Lendings {
     ghost view = { λ a. record { past = lent_before a.total a.lent a.searched; lent = a.lent; searched = a.searched } };
 }
 
-/// Lets to look on a count of one's own, which is forgotten: that of who asks. The module of tables alone can make one, and does with each
-/// new table. A step, which is to count all, does not know the type of the one in its state.
+/// Lets to look on a count of one's own, which is forgotten: that of who asks. The module of tables
+/// alone can make one, and does with each new table. A step, which is to count all, does not know
+/// the type of the one in its state.
 #[derive(Drop)]
 pub struct UncountedAccess {
     given: (),

@@ -6,7 +6,7 @@ ghost use Rattle.bb8_tasks.specs.Homes.{TaskStepsBy};
 use super::assert_equal;
 use bb8_core::api::{Config, Moment};
 use bb8_core::internals::{
-    ClaimAnswer, FailedAnswer, Key, Looked, OpenedAnswer, PoolInternals, ReapAnswer, Unfit,
+    ClaimAnswer, FailedAnswer, Grant, Key, Looked, OpenedAnswer, PoolInternals, ReapAnswer, Unfit,
 };
 use bb8_tasks::{Home, Opener, Replenish, ReplenishAnswer};
 use futures::task::Poll;
@@ -17,8 +17,9 @@ use std::time::Duration;
 /// One millisecond in nanoseconds.
 const MILLI: u64 = 1_000_000;
 
-/// The plain state of a pool, and a server that numbers its openings from 1. Each is ready at its first poll, with its number as the
-/// connection. Where the preparation of one fails, that of each other one is pending once.
+/// The plain state of a pool, and a server that numbers its openings from 1. Each is ready at its
+/// first poll, with its number as the connection. Where the preparation of one fails, that of each
+/// other one is pending once.
 #[derive(Drop)]
 struct Served {
     state: PoolInternals<u64>,
@@ -52,6 +53,10 @@ impl Home<u64> for Served {
 
     fn reap(&mut self, at: Moment) -> ReapAnswer {
         Home::<u64>::reap(&mut self.state, at)
+    }
+
+    fn ask(&mut self, at: Moment) -> Grant {
+        Home::<u64>::ask(&mut self.state, at)
     }
 }
 

@@ -41,7 +41,8 @@ fn assert_replays(
     assert_equal(&rt, replayed.tries, tries);
 }
 
-/// Asserts that polls at these moments, each with an error, are tried each, and that the last one fails.
+/// Asserts that polls at these moments, each with an error, are tried each, and that the last one
+/// fails.
 fn assert_tries_each(rt: &impl Abort, alloc: Global, timeout: u64, moments: &[u64]) {
     let mut polls = Vec::new(alloc);
     for moment in moments {
@@ -86,8 +87,8 @@ fn waits_double_up_to_half_the_timeout(rt: HostRuntime) {
     );
 }
 
-/// Polled when due, a timeout of 1 s, 30 s and 100 ms has 4, 8 and 4 tries: its waits double up to half of it (0.4, 0.5, 0.5 s; 0.4 to
-/// 12.8, 15 s; 50, 50, 50 ms).
+/// Polled when due, a timeout of 1 s, 30 s and 100 ms has 4, 8 and 4 tries: its waits double up to
+/// half of it (0.4, 0.5, 0.5 s; 0.4 to 12.8, 15 s; 50, 50, 50 ms).
 #[test]
 fn polls_when_due_reach_the_bound(rt: HostRuntime) {
     let alloc = rt.alloc();
@@ -131,7 +132,8 @@ fn five_seconds_have_five_tries(rt: HostRuntime) {
     );
 }
 
-/// Moments that go back count as the latest one, and a poll a nanosecond before the due moment waits.
+/// Moments that go back count as the latest one, and a poll a nanosecond before the due moment
+/// waits.
 #[test]
 fn moments_may_go_back(rt: HostRuntime) {
     let polls = [
@@ -153,7 +155,8 @@ fn moments_may_go_back(rt: HostRuntime) {
     assert_replays(&rt, rt.alloc(), 1000 * MILLI, &polls, &answers, 3);
 }
 
-/// With a timeout of 1 ns, whose waits are zero, each of 1,000 polls at 0 tries, and one at 2 ns fails.
+/// With a timeout of 1 ns, whose waits are zero, each of 1,000 polls at 0 tries, and one at 2 ns
+/// fails.
 #[test]
 fn half_a_nanosecond_has_no_bound(rt: HostRuntime) {
     let mut polls = Vec::new(rt.alloc());
@@ -210,8 +213,8 @@ fn opening_under_way_is_one_try(rt: HostRuntime) {
     assert_replays(&rt, rt.alloc(), 1000 * MILLI, &polls, &answers, 1);
 }
 
-/// Asserts that at most so many openings are begun over 5,000 polls at moments that rise and jump back at will, each with an error. A step
-/// is how far the moments rise from one poll to the next.
+/// Asserts that at most so many openings are begun over 5,000 polls at moments that rise and jump
+/// back at will, each with an error. A step is how far the moments rise from one poll to the next.
 fn assert_bounded(rt: &impl Abort, alloc: Global, timeout: u64, step: u64, most: u64) {
     let mut polls = Vec::new(alloc);
     let mut seed: u64 = 1;

@@ -55,8 +55,8 @@ impl Reaper {
 
     /// One poll over a home, at a reading `at` of the clock.
     ///
-    /// It looks at the home first, and reaps once where a tick is due, however many were missed. Once no handle is alive each poll answers
-    /// `Ended`, and calls nothing.
+    /// It looks at the home first, and reaps once where a tick is due, however many were missed.
+    /// Once no handle is alive each poll answers `Ended`, and calls nothing.
     pub fn poll<C, H: Home<C>>(&mut self, at: Moment, home: &mut H) -> ReaperAnswer
         ensures { ReaperPolls H.Home at self.old home.old result self.new home.new }
     {

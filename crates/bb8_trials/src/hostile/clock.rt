@@ -4,8 +4,9 @@ use crate::hostile::source::RandomSource;
 use bb8::{Clock, Moment};
 use std::sync::atomic::{AtomicU64, Ordering};
 
-/// A clock whose readings go on and back in turn, each by a span from its source that is at most `stride` nanoseconds: the first, third and
-/// so on go on from where the last of these was, and each other one is earlier than the one before it, unless that was 0.
+/// A clock whose readings go on and back in turn, each by a span from its source that is at most
+/// `stride` nanoseconds: the first, third and so on go on from where the last of these was, and
+/// each other one is earlier than the one before it, unless that was 0.
 #[derive(Drop)]
 pub struct HostileClock {
     pub(crate) source: RandomSource,

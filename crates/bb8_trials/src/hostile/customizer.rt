@@ -7,7 +7,8 @@ use crate::hostile::source::RandomSource;
 use bb8::{CustomizeConnection, Moment};
 use futures::task::Poll;
 
-/// Prepares connections as its source says: each poll is pending in half of the cases, and fails in an eighth of them.
+/// Prepares connections as its source says: each poll is pending in half of the cases, and fails in
+/// an eighth of them.
 #[derive(Drop)]
 pub struct HostileCustomizer {
     pub(crate) source: RandomSource,

@@ -36,13 +36,15 @@ impl Gauge {
         Ok(Gauge { counts })
     }
 
-    /// The same gauge once more. It fails where there are more copies and tokens than can be counted.
+    /// The same gauge once more. It fails where there are more copies and tokens than can be
+    /// counted.
     pub fn try_clone(&self) -> Result<Gauge, Memory> {
         let counts = Arc::try_clone(&self.counts)?;
         Ok(Gauge { counts })
     }
 
-    /// One more token. Where there are more than can be counted it is counted neither as made nor as dropped.
+    /// One more token. Where there are more than can be counted it is counted neither as made nor
+    /// as dropped.
     pub fn token(&self) -> Token {
         match Arc::try_clone(&self.counts) {
             Ok(counts) => {
@@ -65,7 +67,8 @@ impl Gauge {
         self.counts.dropped.load(Ordering::SeqCst)
     }
 
-    /// How many tokens there are, in a thread that alone makes and drops them. None where more were dropped than made.
+    /// How many tokens there are, in a thread that alone makes and drops them. None where more were
+    /// dropped than made.
     pub fn alive(&self) -> Option<u64> {
         self.made().checked_sub(self.dropped())
     }

@@ -9,7 +9,8 @@ pub struct GetCounts {
     pub served: u64,
     pub timed_out: u64,
     pub cancelled: u64,
-    /// Connections that two held at a time, answers that no get of the pool may have, and figures that break its bounds.
+    /// Connections that two held at a time, answers that no get of the pool may have, and figures
+    /// that break its bounds.
     pub wrong: u64,
 }
 

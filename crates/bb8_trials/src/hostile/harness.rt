@@ -71,7 +71,8 @@ impl Gauges {
             && self.holdings.alive() == Some(0)
     }
 
-    /// Whether no get of a pool that tells this is pending, they are quiet, and all connections that were not dropped are in it, and idle.
+    /// Whether no get of a pool that tells this is pending, they are quiet, and all connections
+    /// that were not dropped are in it, and idle.
     pub fn are_at_rest(&self, state: &State) -> bool {
         state.statistics.pending_gets() == 0
             && state.connections == state.idle_connections

@@ -7,9 +7,10 @@ use crate::hostile::source::RandomSource;
 use bb8::{ManageConnection, Moment};
 use futures::task::Poll;
 
-/// Opens, checks and breaks connections as its source says: of an opening and of a check each poll is pending in half of the cases, and
-/// fails in a quarter or an eighth of them, and of `one_in` connections that it is asked about one is broken. Nothing that it answers
-/// depends on the connection or on the moment.
+/// Opens, checks and breaks connections as its source says: of an opening and of a check each poll
+/// is pending in half of the cases, and fails in a quarter or an eighth of them, and of `one_in`
+/// connections that it is asked about one is broken. Nothing that it answers depends on the
+/// connection or on the moment.
 #[derive(Drop)]
 pub struct HostileManager {
     pub(crate) source: RandomSource,

@@ -8,11 +8,13 @@ use std::alloc::Global;
 use std::sync::Arc;
 use std::sync::atomic::{AtomicU64, Ordering};
 
-/// How far the state moves at each number: 2 to the power of 64, divided by the golden ratio, made odd.
+/// How far the state moves at each number: 2 to the power of 64, divided by the golden ratio, made
+/// odd.
 const STRIDE: u64 = 0x9e37_79b9_7f4a_7c15;
 
-/// A row of numbers that its seed determines, by the rule `splitmix64`. Copies draw from the one row: in one thread it is the same each
-/// time, and across threads the schedule says who has which number. It is no source of secrets.
+/// A row of numbers that its seed determines, by the rule `splitmix64`. Copies draw from the one
+/// row: in one thread it is the same each time, and across threads the schedule says who has which
+/// number. It is no source of secrets.
 #[derive(Drop)]
 pub struct RandomSource {
     state: Arc<AtomicU64, Global>,
@@ -40,7 +42,8 @@ impl RandomSource {
         third ^ (third >> 31)
     }
 
-    /// The next number of the row, brought below `bound`; 0 where that is 0, and then none is drawn.
+    /// The next number of the row, brought below `bound`; 0 where that is 0, and then none is
+    /// drawn.
     pub fn below(&self, bound: u64) -> u64 {
         if bound == 0 {
             return 0;
@@ -48,7 +51,8 @@ impl RandomSource {
         self.next() % bound
     }
 
-    /// What a poll of a check or a preparation answers: pending in half of the cases, and an error in an eighth of them.
+    /// What a poll of a check or a preparation answers: pending in half of the cases, and an error
+    /// in an eighth of them.
     pub(crate) fn poll(&self) -> Poll<Result<(), Refused>> {
         match self.below(8) {
             0..=2 => Poll::Ready(Ok(())),

@@ -7,12 +7,14 @@ use std::alloc::Global;
 use std::sync::Arc;
 use std::sync::atomic::{AtomicU64, Ordering};
 
-/// A clock that a pool reads: how far a deadline, a lifetime or a time of idleness has come is what this clock says.
+/// A clock that a pool reads: how far a deadline, a lifetime or a time of idleness has come is what
+/// this clock says.
 ///
-/// Upstream reads the machine's clock. A clock may be set back, as a pool takes a moment earlier than one that it has seen
-/// already for that one.
+/// Upstream reads the machine's clock. A clock may be set back, as a pool takes a moment earlier
+/// than one that it has seen already for that one.
 pub trait Clock: Send + Sync + Drop + 'static {
-    // Holds of a clock and each moment that it may tell. The implementer's choice; by default it may tell any.
+    // Holds of a clock and each moment that it may tell. The implementer's choice; by default it
+    // may tell any.
     ghost tells: { Self → MomentOf → Type 0 } = { λ _ _. ⊤ };
 
     /// The moment that it is now, in nanoseconds from a zero of the clock's own choice.
@@ -20,8 +22,9 @@ pub trait Clock: Send + Sync + Drop + 'static {
         ensures { tells self.now result };
 }
 
-/// A clock that stands still until it is set, for tests and for programs that bring their own time. Threads share it: a copy by
-/// `try_clone` tells, from then on, whatever moment any of the copies was set to last.
+/// A clock that stands still until it is set, for tests and for programs that bring their own time.
+/// Threads share it: a copy by `try_clone` tells, from then on, whatever moment any of the copies
+/// was set to last.
 #[derive(Drop)]
 pub struct SetClock {
     nanoseconds: Arc<AtomicU64, Global>,
@@ -34,8 +37,8 @@ impl SetClock {
         Ok(SetClock { nanoseconds })
     }
 
-    /// The same clock once more, for another thread or pool; it takes no memory. It fails where there are more copies than can be
-    /// counted.
+    /// The same clock once more, for another thread or pool; it takes no memory. It fails where
+    /// there are more copies than can be counted.
     pub fn try_clone(&self) -> Result<SetClock, Memory> {
         let nanoseconds = Arc::try_clone(&self.nanoseconds)?;
         Ok(SetClock { nanoseconds })

@@ -3,7 +3,8 @@ ghost use Rattle.std.specs.Prelude.{◌≡◌, ◌+◌, ◌≤◌};
 
 use std::time::Duration;
 
-/// How often each thing happened to a pool. As upstream, but for `get_cancelled`, which is our own.
+/// How often each thing happened to a pool. As upstream, but for `get_cancelled`,
+/// `connections_closed_retired` and `connections_detached`, which are our own.
 #[derive(Clone, Copy, Debug, PartialEq, Eq)]
 pub struct Statistics {
     /// Gets that began.
@@ -16,8 +17,9 @@ pub struct Statistics {
     pub get_timed_out: u64,
     /// Gets that were cancelled.
     pub get_cancelled: u64,
-    /// How long the gets that were served or timed out had waited, from the first wait to the answer: each in whole microseconds, and
-    /// the sum in u64 microseconds, where it stays at the greatest.
+    /// How long the gets that were served or timed out had waited, from the first wait to the
+    /// answer: each in whole microseconds, and the sum in u64 microseconds, where it stays at the
+    /// greatest.
     pub get_wait_time: Duration,
     /// Connections that were opened for an approval.
     pub connections_created: u64,
@@ -25,10 +27,16 @@ pub struct Statistics {
     pub connections_closed_broken: u64,
     /// Connections that were closed because their check had failed.
     pub connections_closed_invalid: u64,
-    /// Connections that were closed because of `max_lifetime`. One that was idle for the `idle_timeout`, too, counts here alone.
+    /// Connections that were closed because of `max_lifetime`, and were not retired. One that was
+    /// idle for the `idle_timeout`, too, counts here alone.
     pub connections_closed_max_lifetime: u64,
     /// Connections that were closed because of `idle_timeout`.
     pub connections_closed_idle_timeout: u64,
+    /// Connections that were closed because they were retired. One that had lived too long, too,
+    /// counts here alone.
+    pub connections_closed_retired: u64,
+    /// Connections that left the pool for good.
+    pub connections_detached: u64,
     pub ghost answered_began: { get_direct + get_waited + get_timed_out + get_cancelled ≤ get_started },
 }
 
@@ -52,6 +60,8 @@ impl Default for Statistics {
             connections_closed_invalid: 0,
             connections_closed_max_lifetime: 0,
             connections_closed_idle_timeout: 0,
+            connections_closed_retired: 0,
+            connections_detached: 0,
         }
     }
 }
@@ -64,7 +74,8 @@ impl Statistics {
         self.get_direct + self.get_waited + self.get_timed_out
     }
 
-    /// Gets that began and were neither served nor timed out nor cancelled. As upstream, but that cancelled ones do not count.
+    /// Gets that began and were neither served nor timed out nor cancelled. As upstream, but that
+    /// cancelled ones do not count.
     pub fn pending_gets(&self) -> u64
         ensures { result
             + (self.now.get_direct + self.now.get_waited + self.now.get_timed_out)

@@ -1,4 +1,5 @@
-//! What a runner answers for ids: strange ones, those of jobs that have not ended, and those whose outcome was taken.
+//! What a runner answers for ids: strange ones, those of jobs that have not ended, and those whose
+//! outcome was taken.
 
 use super::came_to;
 use crate::trial::{Bench, CountRunner, RunnerTrial, SlotPool, slots, try_runner};

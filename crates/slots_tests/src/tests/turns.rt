@@ -66,7 +66,8 @@ impl<R: Runtime + Abort> RunnerTrial<R> for OpensFirst {
     }
 }
 
-/// The job's get finds idle what the driver has opened in the same turn: the driver's turn comes first.
+/// The job's get finds idle what the driver has opened in the same turn: the driver's turn comes
+/// first.
 #[test]
 fn driver_turns_before_the_jobs(rt: HostRuntime) {
     assert!(&rt; try_runner(rt, slots(1).min_idle(Some(1)), OpensFirst).is_some());

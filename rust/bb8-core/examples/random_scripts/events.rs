@@ -55,6 +55,12 @@ pub fn configuration(dice: &mut Dice, unit: u64) -> (Config, String) {
             "off"
         }
     ));
+    if dice.one_in(3) {
+        let units = dice.pick(&[0, 1, 5, 20, 60, u64::MAX]).unwrap_or(0);
+        let span = unit.saturating_mul(units);
+        config.test_after = Duration::from_nanos(span);
+        fields.push(format!("test_after={span}"));
+    }
     if !dice.one_in(3) {
         let most = config.max_size.min(12) + u32::from(dice.one_in(20));
         let least = dice.below(u64::from(most) + 1) as u32;
@@ -116,9 +122,10 @@ impl Names {
         match (act, answer) {
             (_, Answer::Begun(get)) => self.gets.push(get),
             (_, Answer::Served(number, _)) => self.out.push(number),
-            (Act::PutBack(number, _), Answer::Kept(..) | Answer::Closed(..)) => {
-                self.out.retain(|it| *it != number)
-            }
+            (
+                Act::PutBack(number, _) | Act::Detach(number),
+                Answer::Kept(..) | Answer::Closed(..),
+            ) => self.out.retain(|it| *it != number),
             (_, Answer::Claimed(number)) => self.claimed.extend(number),
             (Act::Fill(true), Answer::Granted(grant)) => {
                 self.claimed
@@ -138,7 +145,7 @@ impl Names {
             let is_strange = dice.one_in(25);
             dice.pick(if is_strange { &strange } else { names })
         };
-        Some(match dice.below(100) {
+        Some(match dice.below(110) {
             0..=15 => Act::Begin,
             16..=35 => Act::Try(one_of(dice, &self.gets)?),
             36..=43 => Act::CheckedOk(one_of(dice, &self.holding)?),
@@ -165,8 +172,12 @@ impl Names {
             94..=96 => Act::Reap,
             97 => Act::State,
             98 => Act::Look,
-            _ => match dice.below(3) {
+            99..=102 => Act::Detach(one_of(dice, &self.out)?),
+            103..=105 => Act::Ask,
+            106..=107 => Act::Retire,
+            _ => match dice.below(7) {
                 0 => Act::Leave,
+                1 => Act::Close,
                 _ => Act::Join,
             },
         })

@@ -31,15 +31,19 @@ fn spelled(act: Act) -> String {
             format!("cancel {get}{}", broken(is_broken))
         }
         Act::PutBack(number, is_broken) => format!("return {number}{}", broken(is_broken)),
+        Act::Detach(number) => format!("detach {number}"),
         Act::Fill(claimed) => format!("fill{}", if claimed { " claimed" } else { "" }),
+        Act::Ask => "ask".to_owned(),
         Act::Claim => "claim".to_owned(),
         Act::Opened(number) => format!("open {number}"),
         Act::Failed(number) => format!("fail {number}"),
         Act::Add(is_broken) => format!("add{}", broken(is_broken)),
         Act::Reap => "reap".to_owned(),
+        Act::Retire => "retire".to_owned(),
         Act::State => "state".to_owned(),
         Act::Join => "join".to_owned(),
         Act::Leave => "leave".to_owned(),
+        Act::Close => "close".to_owned(),
         Act::Look => "look".to_owned(),
     }
 }

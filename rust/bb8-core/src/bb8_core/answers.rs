@@ -4,7 +4,8 @@ use crate::bb8_tables::keys::{GetKey, Key};
 use crate::bb8_types::api::Moment;
 use crate::bb8_types::grants::Grant;
 
-/// The step does not fit, as the state knows no such get or approval, or no handle is alive; nothing has changed.
+/// The step does not fit, as the state knows no such get or approval, or no handle is alive;
+/// nothing has changed.
 #[derive(Clone, Copy, Debug)]
 pub struct Unfit;
 
@@ -31,7 +32,8 @@ pub enum TryAnswer<C> {
 
 /// What a get comes to that begins and tries.
 pub enum Started<C> {
-    /// The get began, and its first try told this. The place of the key of one that was served is 0.
+    /// The get began, and its first try told this. The place of the key of one that was served is
+    /// 0.
     Tried(GetKey, TryAnswer<C>),
     /// The most gets so far are alive, and memory for one more was refused.
     Memory,
@@ -48,7 +50,8 @@ pub enum CheckedOkAnswer {
 
 /// What a check that failed answers.
 pub enum CheckedErrAnswer<C> {
-    /// The connection of this key is closed and handed back; this was granted; the get that was notified.
+    /// The connection of this key is closed and handed back; this was granted; the get that was
+    /// notified.
     Closed(Key, C, Grant, Option<GetKey>),
 }
 
@@ -80,7 +83,8 @@ pub enum GiveUpAnswer<C> {
     GaveUp(Option<GetKey>),
     /// The get ended, and its connection of this key is idle; the get that was notified.
     Kept(Key, Option<GetKey>),
-    /// The get ended, and its connection of this key is closed and handed back; this was granted; the get that was notified.
+    /// The get ended, and its connection of this key is closed and handed back; this was granted;
+    /// the get that was notified.
     Closed(Key, C, Grant, Option<GetKey>),
 }
 
@@ -119,6 +123,23 @@ pub struct Looked {
     pub moment: Moment,
     /// Whether a handle is alive.
     pub alive: bool,
+}
+
+/// What a guard's leaving with its connection answers.
+#[derive(Clone, Copy, Debug)]
+pub enum DetachAnswer {
+    /// The connection is the pool's no more; this was granted; the get that was notified.
+    Detached(Grant, Option<GetKey>),
+}
+
+impl DetachAnswer {
+    /// The get that was notified, if one was.
+    #[inline]
+    pub fn notified(&self) -> Option<GetKey> {
+        match self {
+            DetachAnswer::Detached(_, get) => *get,
+        }
+    }
 }
 
 /// What the return of a connection answers.
@@ -181,7 +202,8 @@ pub enum ReapAnswer {
     Reaped {
         /// How many.
         closed: u32,
-        /// How many of them had been idle for the `idle_timeout`, and had not lived for the `max_lifetime`.
+        /// How many of them had been idle for the `idle_timeout`, and had not lived for the
+        /// `max_lifetime`.
         by_idle: u32,
         /// How many of them had lived for the `max_lifetime`.
         by_life: u32,
@@ -200,7 +222,8 @@ pub enum AddAnswer<C> {
     Broken(C),
     /// Connections and open approvals are as many as `max_size`.
     NoCapacity(C),
-    /// No number is left, or the connections and open approvals are as many as ever and memory for one more was refused.
+    /// No number is left, or the connections and open approvals are as many as ever and memory for
+    /// one more was refused.
     Withheld(C),
 }
 

@@ -1,12 +1,15 @@
-//! Steps that hand over: where one notifies a get, that get tries in the same call. So no other try comes between, and in a pool whose
-//! events all hand over gets are served in the order in which they began to wait. A close sends the get that it notifies to the end.
+//! Steps that hand over: where one notifies a get, that get tries in the same call. So no other try
+//! comes between, and in a pool whose events all hand over gets are handed connections in the order
+//! in which they began to wait. A get that is notified by a close, or whose check fails, loses its
+//! place.
 //!
-//! Each is the step of its name, and then that try.
+//! Each is the step of its name, and then that try. It can ask a pool no question that its state
+//! does not count.
 
 use crate::bb8_core::api::Moment;
 use crate::bb8_core::internals::{
-    AddAnswer, CheckedErrAnswer, GetKey, GiveUpAnswer, Key, OpenedAnswer, PoolInternals,
-    PutBackAnswer, Reason, TryAnswer, Unfit,
+    AddAnswer, CheckedErrAnswer, DetachAnswer, GetKey, GiveUpAnswer, Key, OpenedAnswer,
+    PoolInternals, PutBackAnswer, Reason, TryAnswer, Unfit,
 };
 
 /// What a step that hands over comes to.
@@ -17,10 +20,11 @@ pub struct HandedOver<R, C> {
     pub tried: Option<TryAnswer<C>>,
 }
 
-/// Lets the get try that was notified, if one was. It stands once, as the steps round it stand in their places.
+/// Lets the get try that was notified, if one was. It stands once, as the steps round it stand in
+/// their places.
 #[inline(never)]
-fn try_of<C>(
-    pool: &mut PoolInternals<C>,
+fn try_of<C, A>(
+    pool: &mut PoolInternals<C, A>,
     at: Moment,
     notified: Option<GetKey>,
 ) -> Option<TryAnswer<C>> {
@@ -56,8 +60,8 @@ macro_rules! hand_over {
 
 /// Tells that the check of a get failed, and hands over.
 #[inline(always)]
-pub fn checked_err<C>(
-    pool: &mut PoolInternals<C>,
+pub fn checked_err<C, A>(
+    pool: &mut PoolInternals<C, A>,
     at: Moment,
     get: GetKey,
     conn: C,
@@ -69,8 +73,8 @@ pub fn checked_err<C>(
 
 /// Gives up a get that holds nothing, and hands over.
 #[inline(always)]
-pub fn give_up<C>(
-    pool: &mut PoolInternals<C>,
+pub fn give_up<C, A>(
+    pool: &mut PoolInternals<C, A>,
     at: Moment,
     get: GetKey,
     reason: Reason,
@@ -81,8 +85,8 @@ pub fn give_up<C>(
 
 /// Gives up a get that holds this connection, and hands over.
 #[inline(always)]
-pub fn give_back<C>(
-    pool: &mut PoolInternals<C>,
+pub fn give_back<C, A>(
+    pool: &mut PoolInternals<C, A>,
     at: Moment,
     get: GetKey,
     reason: Reason,
@@ -99,8 +103,8 @@ pub fn give_back<C>(
 
 /// Gives back a connection that a guard holds, and hands over.
 #[inline(always)]
-pub fn put_back<C>(
-    pool: &mut PoolInternals<C>,
+pub fn put_back<C, A>(
+    pool: &mut PoolInternals<C, A>,
     at: Moment,
     key: Key,
     conn: C,
@@ -109,10 +113,20 @@ pub fn put_back<C>(
     hand_over!(pool, at, pool.put_back(at, key, conn, broken))
 }
 
+/// Lets the connection that a guard holds go for good, and hands over.
+#[inline(always)]
+pub fn detach<C, A>(
+    pool: &mut PoolInternals<C, A>,
+    at: Moment,
+    key: Key,
+) -> HandedOver<Result<DetachAnswer, Unfit>, C> {
+    hand_over!(pool, at, pool.detach(at, key))
+}
+
 /// Hands in what a claimed approval brought, and hands over.
 #[inline(always)]
-pub fn opened<C>(
-    pool: &mut PoolInternals<C>,
+pub fn opened<C, A>(
+    pool: &mut PoolInternals<C, A>,
     at: Moment,
     key: Key,
     conn: C,
@@ -122,8 +136,8 @@ pub fn opened<C>(
 
 /// Adds a connection, and hands over.
 #[inline(always)]
-pub fn add<C>(
-    pool: &mut PoolInternals<C>,
+pub fn add<C, A>(
+    pool: &mut PoolInternals<C, A>,
     at: Moment,
     conn: C,
     broken: bool,

@@ -3,11 +3,12 @@
 mod decided;
 mod handles;
 mod questions;
+mod reaps;
 
 pub use crate::bb8_core::answers::{
-    AddAnswer, AtOnce, BeginAnswer, CheckedErrAnswer, CheckedOkAnswer, ClaimAnswer, FailedAnswer,
-    GiveUpAnswer, JoinAnswer, LeaveAnswer, Looked, OpenedAnswer, PutBackAnswer, ReapAnswer,
-    Started, TryAnswer, Unfit,
+    AddAnswer, AtOnce, BeginAnswer, CheckedErrAnswer, CheckedOkAnswer, ClaimAnswer, DetachAnswer,
+    FailedAnswer, GiveUpAnswer, JoinAnswer, LeaveAnswer, Looked, OpenedAnswer, PutBackAnswer,
+    ReapAnswer, Started, TryAnswer, Unfit,
 };
 pub use crate::bb8_tables::closed::{Closed, ClosedList};
 use crate::bb8_tables::counters::Counters;
@@ -20,21 +21,29 @@ pub use crate::bb8_types::grants::Grant;
 pub use crate::bb8_types::reasons::Reason;
 use crate::bb8_types::standing::{GetPlace, Holder};
 use decided::{
-    close_and_grant, due_waiting, greatest_age, holder, is_expired, notify_next_if, want,
-    want_with_handle,
+    checks_first, close_and_grant, due_asked, due_waiting, either, greatest_age, holder,
+    is_doubtful, is_expired, notify_next_if, want, want_with_handle,
 };
 use crate::kit::Global;
 
-/// The state of a pool that stands behind its lock, over connections of any type. Its steps are the events of a pool; they call no
-/// manager and wait for nothing. Its name and its part are upstream's.
+/// The state of a pool that stands behind its lock, over connections of any type. Its steps are the
+/// events of a pool; they call no manager and wait for nothing. Its name and its part are
+/// upstream's.
 ///
 /// Whoever has one has what some legal ledger shows, so it keeps the limits: see `limits`.
 ///
-/// Its steps stand in an impl for every `A`, so they cannot ask by `asking`, as the questions do, which stand in an impl for `UncountedAccess`.
+/// Its steps stand in an impl for every `A`, so they cannot ask by `asking`, as the questions do,
+/// which stand in an impl for `UncountedAccess`.
 pub struct PoolInternals<C, A = UncountedAccess> {
     config: Config,
-    // The greatest age, in nanoseconds, that does not reach `max_lifetime`; each return compares an age with it.
+    // The greatest age, in nanoseconds, that does not reach `max_lifetime`; each return compares an
+    // age with it.
     greatest_age: u64,
+    // All are retired whose numbers are below this one.
+    retired: u64,
+    // What comes back with a number below this one is closed: what is retired, and all once no
+    // handle is alive.
+    closed_below: u64,
     latest: u64,
     handles: u64,
     records: Records<C>,
@@ -50,13 +59,15 @@ impl<C> PoolInternals<C> {
         Self::starting_at(alloc, config, 0, 0)
     }
 
-    /// The empty state with one handle, whose connections and approvals have numbers from `first_number` on, and its gets from
-    /// `first_get` on. It takes no memory.
+    /// The empty state with one handle, whose connections and approvals have numbers from
+    /// `first_number` on, and its gets from `first_get` on. It takes no memory.
     pub fn starting_at(alloc: Global, config: Config, first_number: u64, first_get: u64) -> Self {
         let (records, asking) = Records::new(alloc, first_number);
         PoolInternals {
             greatest_age: greatest_age(config.max_lifetime),
             config,
+            retired: 0,
+            closed_below: 0,
             latest: 0,
             handles: 1,
             records,
@@ -69,7 +80,8 @@ impl<C> PoolInternals<C> {
 }
 
 impl<C, A> PoolInternals<C, A> {
-    /// Begins a get. Memory is asked for only where as many gets are alive as ever were. Where no handle is alive nothing changes.
+    /// Begins a get. Memory is asked for only where as many gets are alive as ever were. Where no
+    /// handle is alive nothing changes.
     pub fn begin(&mut self, at: Moment) -> Result<BeginAnswer, Unfit> {
         self.limits();
         if !self.fits_begin() {
@@ -89,26 +101,30 @@ impl<C, A> PoolInternals<C, A> {
         }
     }
 
-    /// Begins a get and serves it, as `begin` and then `try_get` do, where connections go out unchecked, one is idle, and the get could begin
-    /// with no memory. Otherwise nothing changes: connections are checked, none is idle, no number is left, or as many gets are alive as ever
+    /// Begins a get and serves it, as `begin` and then `try_get` do, if the idle connection that is
+    /// first goes out unchecked, and the get could begin with no memory. Otherwise nothing changes:
+    /// that one is checked, none is idle, no number is left, or as many gets are alive as ever
     /// were. While no handle is alive none is idle.
     #[inline(always)]
     pub fn serve_at_once(&mut self, at: Moment) -> Option<AtOnce<C>> {
         self.limits();
-        if self.config.test_on_check_out || !self.gets.has_room() {
+        let mut lendings = self.lendings.begun();
+        let now = self.latest.max(at.0);
+        if checks_first(&self.config, &self.records, now, &mut lendings) {
+            return None;
+        }
+        if !self.gets.has_room() {
             return None;
         }
         // While no handle is alive nothing is idle.
         if self.records.idle_connections() == 0 {
             return None;
         }
-        let mut lendings = self.lendings.begun();
         let strategy = self.config.queue_strategy;
         match self.records.take(strategy, Holder::Guard, &mut lendings) {
             None => None,
             Some((key, conn)) => {
                 self.lendings = lendings;
-                let now = self.latest.max(at.0);
                 self.latest = now;
                 let get = self.gets.begin_and_end();
                 self.counters.started += 1;
@@ -125,8 +141,9 @@ impl<C, A> PoolInternals<C, A> {
         }
     }
 
-    /// Begins a get and lets it try, as `begin` and then `try_get` do, in one step. A get that is served leaves no entry; another is born where
-    /// it stands then, and is looked up nowhere. Where no handle is alive nothing changes.
+    /// Begins a get and lets it try, as `begin` and then `try_get` do, in one step. A get that is
+    /// served leaves no entry; another is born where it stands then, and is looked up nowhere.
+    /// Where no handle is alive nothing changes.
     #[inline(always)]
     pub fn start(&mut self, at: Moment) -> Result<Started<C>, Unfit> {
         self.limits();
@@ -155,7 +172,7 @@ impl<C, A> PoolInternals<C, A> {
         }
     }
 
-    /// Starts a get that is checked, or waits, or needs memory.
+    /// Starts a get that may be checked, or waits, or needs memory.
     #[inline(always)]
     fn start_on(&mut self, at: Moment) -> Started<C> {
         let now = self.latest.max(at.0);
@@ -174,10 +191,11 @@ impl<C, A> PoolInternals<C, A> {
             number: self.gets.next_number(),
             place: 0,
         };
-        let holder = holder(&self.config, next);
+        let checked = checks_first(&self.config, &self.records, now, &mut lendings);
+        let strategy = self.config.queue_strategy;
         match self
             .records
-            .take(self.config.queue_strategy, holder, &mut lendings)
+            .take(strategy, holder(checked, next), &mut lendings)
         {
             None => {
                 let get = self.gets.bear_waiting(now, &mut lendings);
@@ -190,7 +208,7 @@ impl<C, A> PoolInternals<C, A> {
             Some((key, conn)) => {
                 let wanted = want_with_handle(&self.config, &self.records);
                 let grant = self.records.grant(wanted, false);
-                if self.config.test_on_check_out {
+                if checked {
                     let get = self.gets.bear_holding(key.number, &mut lendings);
                     self.lendings = lendings;
                     return Started::Tried(get, TryAnswer::Taken(key, conn, grant));
@@ -203,10 +221,13 @@ impl<C, A> PoolInternals<C, A> {
         }
     }
 
-    /// Takes out the idle connection that is first by the queue strategy, and grants what is wanted then. Where connections are checked, the
-    /// get holds it until its check is told; otherwise the get is served with it, and it goes to a guard. Where none is idle the get waits from now on, and one approval is granted where gets outnumber open approvals. A get that waits
-    /// and was not notified waits on, and nothing changes but the latest moment. No memory is asked for, but for approvals. Where the get may
-    /// not try nothing changes.
+    /// Takes out the idle connection that is first by the queue strategy, and grants what is wanted
+    /// then. Where connections are checked, and it was idle for `test_after`, the get holds it
+    /// until its check is told; otherwise the get is served with it, and it goes to a guard. Where
+    /// none is idle the get waits from now on, and one approval is granted where gets outnumber
+    /// open approvals. A get that waits and was not notified waits on, and nothing changes but the
+    /// latest moment. No memory is asked for, but for approvals. Where the get may not try nothing
+    /// changes.
     #[inline(always)]
     pub fn try_get(&mut self, at: Moment, get: GetKey) -> Result<TryAnswer<C>, Unfit> {
         self.limits();
@@ -222,10 +243,11 @@ impl<C, A> PoolInternals<C, A> {
             let nothing = Grant::of_nothing(self.records.next_number());
             return Ok(TryAnswer::Waiting(nothing));
         }
-        let holder = holder(&self.config, get);
+        let checked = checks_first(&self.config, &self.records, now, &mut self.lendings);
+        let strategy = self.config.queue_strategy;
         match self
             .records
-            .take(self.config.queue_strategy, holder, &mut self.lendings)
+            .take(strategy, holder(checked, get), &mut self.lendings)
         {
             None => {
                 let alive = self.gets.alive();
@@ -237,7 +259,7 @@ impl<C, A> PoolInternals<C, A> {
             Some((key, conn)) => {
                 let wanted = want(&self.config, self.handles, &self.records);
                 let grant = self.records.grant(wanted, false);
-                if self.config.test_on_check_out {
+                if checked {
                     self.gets
                         .turn(get, GetPlace::Holding(key.number), &mut self.lendings);
                     return Ok(TryAnswer::Taken(key, conn, grant));
@@ -249,8 +271,9 @@ impl<C, A> PoolInternals<C, A> {
         }
     }
 
-    /// Serves a get with the connection that it holds, as its check was passed. The connection goes to a guard. It may stand at the hint,
-    /// the place of its key, which may be stale and changes no answer. Where the get holds none nothing changes. The get is looked for once.
+    /// Serves a get with the connection that it holds, as its check was passed. The connection goes
+    /// to a guard. It may stand at the hint, the place of its key, which may be stale and changes
+    /// no answer. Where the get holds none nothing changes. The get is looked for once.
     #[inline(always)]
     pub fn checked_ok(
         &mut self,
@@ -277,9 +300,10 @@ impl<C, A> PoolInternals<C, A> {
         }
     }
 
-    /// Closes the connection that a get holds, as its check failed; the get may try again. It counts as invalid, and as broken too where it
-    /// is broken, or else as too old where it has lived too long. The hint is as of `checked_ok`. Where the get holds none nothing changes, and
-    /// the connection comes back.
+    /// Closes the connection that a get holds, as its check failed; the get may try again. It
+    /// counts as invalid, and as broken too where it is broken, or else as too old where it has
+    /// lived too long. The hint is as of `checked_ok`. Where the get holds none nothing changes,
+    /// and the connection comes back.
     pub fn checked_err(
         &mut self,
         at: Moment,
@@ -300,7 +324,8 @@ impl<C, A> PoolInternals<C, A> {
             place: hint,
         };
         let birth = self.records.birth(key, &mut lendings);
-        let expired = is_expired(&self.config, now, birth);
+        let retired = held < self.retired;
+        let expired = either(is_expired(&self.config, now, birth), retired);
         let grant = close_and_grant(
             &self.config,
             self.handles,
@@ -309,14 +334,15 @@ impl<C, A> PoolInternals<C, A> {
             &mut lendings,
         );
         self.counters.invalid += 1;
-        self.counters.close(broken, expired);
+        self.counters.close(broken, retired, expired);
         let notified = self.gets.notify(&mut lendings);
         self.lendings = lendings;
         Ok(CheckedErrAnswer::Closed(key, conn, grant, notified))
     }
 
-    /// Ends a get that is not served, as it timed out or was cancelled, and that holds nothing. Where it had been notified, the oldest waiter that
-    /// was not is notified in its place. Where there is no such get nothing changes. It is looked for once.
+    /// Ends a get that is not served, as it timed out or was cancelled, and that holds nothing.
+    /// Where it had been notified, the oldest waiter that was not is notified in its place. Where
+    /// there is no such get nothing changes. It is looked for once.
     #[inline(always)]
     pub fn give_up(
         &mut self,
@@ -338,8 +364,9 @@ impl<C, A> PoolInternals<C, A> {
         Ok(GiveUpAnswer::GaveUp(heir))
     }
 
-    /// Ends a get that is not served and holds a connection, which is handed in and returns as in `put_back`. The hint is as of `checked_ok`.
-    /// Where the get holds none nothing changes, and the connection comes back.
+    /// Ends a get that is not served and holds a connection, which is handed in and returns as in
+    /// `put_back`; with `test_after` it counts as broken. The hint is as of `checked_ok`. Where the
+    /// get holds none nothing changes, and the connection comes back.
     #[inline(always)]
     pub fn give_back(
         &mut self,
@@ -358,7 +385,8 @@ impl<C, A> PoolInternals<C, A> {
         let now = self.latest.max(at.0);
         self.latest = now;
         self.counters.give_up(reason, first_wait, now);
-        let ended = self.handles == 0;
+        let doubtful = is_doubtful(&self.config, broken);
+        let ended = held < self.closed_below;
         let key = Key {
             number: held,
             place: hint,
@@ -368,7 +396,7 @@ impl<C, A> PoolInternals<C, A> {
             key,
             conn,
             holder,
-            broken,
+            doubtful,
             ended,
             self.greatest_age,
             now,
@@ -390,14 +418,17 @@ impl<C, A> PoolInternals<C, A> {
                     key,
                     &mut self.lendings,
                 );
-                self.counters.close(broken, expired);
+                let retired = held < self.retired;
+                self.counters
+                    .close(doubtful, retired, either(expired, retired));
                 Ok(GiveUpAnswer::Closed(key, conn, grant, self.gets.notify(&mut self.lendings)))
             }
         }
     }
 
-    /// Takes back a connection that a guard held. It is closed where it is broken, or else has lived too long, or else no handle is alive;
-    /// otherwise it is idle again and keeps its birth. Where no guard holds it, it comes back, and nothing changes. It is looked for once.
+    /// Takes back a connection that a guard held. It is closed where it is broken, or else has
+    /// lived too long, or else no handle is alive; otherwise it is idle again and keeps its birth.
+    /// Where no guard holds it, it comes back, and nothing changes. It is looked for once.
     #[inline(always)]
     pub fn put_back(
         &mut self,
@@ -409,7 +440,7 @@ impl<C, A> PoolInternals<C, A> {
         self.limits();
         let now = self.latest.max(at.0);
         let mut lendings = self.lendings.begun();
-        let ended = self.handles == 0;
+        let ended = k.number < self.closed_below;
         let holder = Holder::Guard;
         match self.records.put_back(
             k,
@@ -438,20 +469,56 @@ impl<C, A> PoolInternals<C, A> {
                     k,
                     &mut self.lendings,
                 );
-                self.counters.close(broken, expired);
+                let retired = k.number < self.retired;
+                self.counters
+                    .close(broken, retired, either(expired, retired));
                 Ok(PutBackAnswer::Closed(conn, grant, self.gets.notify(&mut self.lendings)))
             }
         }
     }
 
-    /// Grants what is wanted: as many approvals as idle connections and open approvals are fewer than `min_idle`. They are claimed at
-    /// once where that is asked for.
+    /// Lets a connection go for good that a guard holds, and keeps: its record ends, what is wanted
+    /// is granted, and the oldest waiter is notified, as where one is closed. Where no guard holds
+    /// it nothing changes. It is looked for twice.
+    pub fn detach(&mut self, at: Moment, k: Key) -> Result<DetachAnswer, Unfit> {
+        self.limits();
+        let mut lendings = self.lendings.begun();
+        if !self.records.is_guarded(k, &mut lendings) {
+            return Err(Unfit);
+        }
+        self.latest = self.latest.max(at.0);
+        self.lendings = lendings;
+        let grant = close_and_grant(
+            &self.config,
+            self.handles,
+            &mut self.records,
+            k,
+            &mut self.lendings,
+        );
+        self.counters.detach();
+        Ok(DetachAnswer::Detached(grant, self.gets.notify(&mut self.lendings)))
+    }
+
+    /// Grants what is wanted: as many approvals as idle connections and open approvals are fewer
+    /// than `min_idle`. They are claimed at once where that is asked for.
     pub fn fill(&mut self, at: Moment, claimed: bool) -> Grant {
         self.limits();
         self.latest = self.latest.max(at.0);
         self.lendings.start();
         let wanted = want(&self.config, self.handles, &self.records);
         self.records.grant(wanted, claimed)
+    }
+
+    /// Grants what waiters lack: as many approvals as open approvals are fewer than the waiters
+    /// that were not notified. It is for those whose openings were given up, as none of them asks
+    /// again by itself.
+    pub fn ask(&mut self, at: Moment) -> Grant {
+        self.limits();
+        self.latest = self.latest.max(at.0);
+        self.lendings.start();
+        let waiting = self.gets.unnotified();
+        let due = due_asked(&self.config, self.handles, &self.records, waiting);
+        self.records.grant(due, false)
     }
 
     /// Claims the unclaimed approval of the least number.
@@ -465,8 +532,9 @@ impl<C, A> PoolInternals<C, A> {
         ClaimAnswer::Claimed(self.records.claim(&mut self.lendings))
     }
 
-    /// Makes idle the connection that a claimed approval brought; its birth is now. Where no handle is alive the approval ends instead,
-    /// and the connection is handed back. Where the number is no claimed approval it comes back, and nothing changes. It is looked for once.
+    /// Makes idle the connection that a claimed approval brought; its birth is now. Where no handle
+    /// is alive the approval ends instead, and the connection is handed back. Where the number is
+    /// no claimed approval it comes back, and nothing changes. It is looked for once.
     pub fn opened(&mut self, at: Moment, a: Key, conn: C) -> Result<OpenedAnswer<C>, C> {
         self.limits();
         let now = self.latest.max(at.0);
@@ -491,7 +559,8 @@ impl<C, A> PoolInternals<C, A> {
         }
     }
 
-    /// Ends a claimed approval that brought no connection. Nobody is notified. Where the number is none nothing changes. It is looked for once.
+    /// Ends a claimed approval that brought no connection. Nobody is notified. Where the number is
+    /// none nothing changes. It is looked for once.
     pub fn failed(&mut self, at: Moment, approval: Key) -> Result<FailedAnswer, Unfit> {
         self.limits();
         let mut lendings = self.lendings.begun();
@@ -503,9 +572,10 @@ impl<C, A> PoolInternals<C, A> {
         Ok(FailedAnswer::GivenBack)
     }
 
-    /// Adds a connection that no approval brought, born now. A broken one is refused first; then any, where connections and open approvals
-    /// are as many as `max_size`; then, where no number is left, or there are as many of them as ever were and memory for one more was
-    /// refused. Where no handle is alive nothing changes, and it comes back.
+    /// Adds a connection that no approval brought, born now. A broken one is refused first; then
+    /// any, where connections and open approvals are as many as `max_size`; then, where no number
+    /// is left, or there are as many of them as ever were and memory for one more was refused.
+    /// Where no handle is alive nothing changes, and it comes back.
     pub fn add(&mut self, at: Moment, conn: C, broken: bool) -> Result<AddAnswer<C>, C> {
         self.limits();
         if !self.fits_add() {
@@ -526,39 +596,6 @@ impl<C, A> PoolInternals<C, A> {
         match self.records.add(conn, now) {
             Ok(key) => Ok(AddAnswer::Added(key, self.gets.notify(&mut self.lendings))),
             Err(conn) => Ok(AddAnswer::Withheld(conn)),
-        }
-    }
-
-    /// Closes each idle connection that has lived for the `max_lifetime`, then those that have been idle for the `idle_timeout`, the one that
-    /// entered first before the others, but for `min_idle` idle ones; and grants what is wanted then. Each counts in one figure: as one that
-    /// lived too long, or as one that idled. Nobody is notified. The connections are dropped here. Where no handle is alive nothing changes
-    /// but the latest moment. It looks at the connections that end, at most at those that are out, and at two more.
-    pub fn reap(&mut self, at: Moment) -> ReapAnswer {
-        let mut dropped = self.records.no_list();
-        self.reap_into(at, &mut dropped)
-    }
-
-    /// Reaps as `reap` does, and puts the connections that it closes into a list, in the order in which it closes them. What the list has no
-    /// room for is dropped.
-    pub fn reap_into(&mut self, at: Moment, closed: &mut ClosedList<C>) -> ReapAnswer {
-        self.limits();
-        let now = self.latest.max(at.0);
-        self.latest = now;
-        self.lendings.start();
-        if self.handles == 0 {
-            return ReapAnswer::Ended;
-        }
-        let reaped = self
-            .records
-            .reap(&self.config, now, closed, &mut self.lendings);
-        let wanted = want(&self.config, self.handles, &self.records);
-        let grant = self.records.grant(wanted, false);
-        self.counters.reap(reaped.by_idle, reaped.by_life);
-        ReapAnswer::Reaped {
-            closed: reaped.closed,
-            by_idle: reaped.by_idle,
-            by_life: reaped.by_life,
-            grant,
         }
     }
 }

@@ -5,9 +5,9 @@ mod hints;
 
 use self::hints::Hints;
 use crate::bb8_core::answers::{
-    AddAnswer, BeginAnswer, CheckedErrAnswer, CheckedOkAnswer, ClaimAnswer, FailedAnswer,
-    GiveUpAnswer, JoinAnswer, LeaveAnswer, OpenedAnswer, PutBackAnswer, ReapAnswer, TryAnswer,
-    Unfit,
+    AddAnswer, BeginAnswer, CheckedErrAnswer, CheckedOkAnswer, ClaimAnswer, DetachAnswer,
+    FailedAnswer, GiveUpAnswer, JoinAnswer, LeaveAnswer, OpenedAnswer, PutBackAnswer, ReapAnswer,
+    TryAnswer, Unfit,
 };
 use crate::bb8_core::internals::PoolInternals;
 use crate::bb8_tables::keys::{GetKey, Key};
@@ -26,15 +26,16 @@ fn number_of(notified: Option<GetKey>) -> Option<u64> {
     }
 }
 
-/// Where the records and the gets of a replay stood last. It spares searches, and changes no answer.
+/// Where the records and the gets of a replay stood last. It spares searches, and changes no
+/// answer.
 pub struct Known {
     records: Hints,
     gets: Hints,
 }
 
 impl Known {
-    /// Nothing is known yet, of a pool whose connections and approvals have numbers from `first_number` on, and its gets from `first_get`
-    /// on. It takes no memory.
+    /// Nothing is known yet, of a pool whose connections and approvals have numbers from
+    /// `first_number` on, and its gets from `first_get` on. It takes no memory.
     pub fn new(alloc: Global, first_number: u64, first_get: u64) -> Self {
         Known {
             records: Hints::new(alloc, first_number),
@@ -47,11 +48,16 @@ impl Known {
         match act {
             Act::Try(get) | Act::CheckedOk(get) => self.gets.place(get),
             Act::CheckedErr(get, _) | Act::GiveUp(get, _, _) => self.gets.place(get),
-            Act::PutBack(number, _) | Act::Opened(number) | Act::Failed(number) => {
-                self.records.place(number)
-            }
-            Act::Begin | Act::Fill(_) | Act::Claim | Act::Add(_) => 0,
-            Act::Reap | Act::State | Act::Join | Act::Leave | Act::Look => 0,
+            Act::PutBack(number, _) | Act::Detach(number) => self.records.place(number),
+            Act::Opened(number) | Act::Failed(number) => self.records.place(number),
+            Act::Begin | Act::Fill(_) | Act::Ask | Act::Claim | Act::Add(_) => 0,
+            Act::Reap
+            | Act::Retire
+            | Act::State
+            | Act::Join
+            | Act::Leave
+            | Act::Close
+            | Act::Look => 0,
         }
     }
 
@@ -79,11 +85,13 @@ fn fits_act<C>(pool: &PoolInternals<C>, act: Act) -> bool {
             pool.fits_checked_ok(GetKey { number, place })
         }
         Act::GiveUp(number, _, _) => pool.is_alive(GetKey { number, place }),
-        Act::PutBack(number, _) => pool.is_guarded(Key { number, place }),
+        Act::PutBack(number, _) | Act::Detach(number) => pool.is_guarded(Key { number, place }),
         Act::Opened(number) | Act::Failed(number) => pool.is_claimed(Key { number, place }),
         Act::Join => pool.fits_join(),
         Act::Leave => pool.fits_leave(),
-        Act::Fill(_) | Act::Claim | Act::Reap | Act::State | Act::Look => true,
+        Act::Close => pool.fits_close(),
+        Act::Fill(_) | Act::Ask | Act::Claim | Act::Reap | Act::Retire | Act::State | Act::Look =>
+            true,
     }
 }
 
@@ -116,13 +124,14 @@ fn try_get(pool: &mut PoolInternals<u64>, known: &mut Known, at: Moment, get: Ge
 
 fn checked_ok(pool: &mut PoolInternals<u64>, known: &Known, at: Moment, get: GetKey) -> Answer {
     let hint = known.hint(pool.held(get));
-    let grant = Grant {
-        first: pool.next_number(),
-        count: 0,
-        withheld: 0,
-    };
-    match pool.checked_ok(at, get, hint) {
-        Ok(CheckedOkAnswer::Served(key)) => Answer::Served(key.number, grant),
+    let next = pool.next_number();
+    told_of_checked_ok(pool.checked_ok(at, get, hint), next)
+}
+
+/// What a check that passed answers, where this number is next.
+fn told_of_checked_ok(answer: Result<CheckedOkAnswer, Unfit>, next: u64) -> Answer {
+    match answer {
+        Ok(CheckedOkAnswer::Served(key)) => Answer::Served(key.number, Grant::of_nothing(next)),
         Err(Unfit) => Answer::Unfit,
     }
 }
@@ -135,7 +144,12 @@ fn checked_err(
     broken: bool,
 ) -> Answer {
     let held = pool.held(get);
-    match pool.checked_err(at, get, held.unwrap_or(0), broken, known.hint(held)) {
+    told_of_checked_err(pool.checked_err(at, get, held.unwrap_or(0), broken, known.hint(held)))
+}
+
+/// What a check that failed answers.
+fn told_of_checked_err(answer: Result<CheckedErrAnswer<u64>, u64>) -> Answer {
+    match answer {
         Ok(CheckedErrAnswer::Closed(key, _, grant, notified)) => {
             Answer::Closed(key.number, grant, number_of(notified))
         }
@@ -143,7 +157,8 @@ fn checked_err(
     }
 }
 
-fn gave_up<U>(answer: Result<GiveUpAnswer<u64>, U>) -> Answer {
+/// What a give-up answers.
+fn told_of_give_up<U>(answer: Result<GiveUpAnswer<u64>, U>) -> Answer {
     match answer {
         Ok(GiveUpAnswer::GaveUp(notified)) => Answer::GaveUp(number_of(notified)),
         Ok(GiveUpAnswer::Kept(key, notified)) => Answer::Kept(key.number, number_of(notified)),
@@ -164,10 +179,10 @@ fn give_up(
     broken: bool,
 ) -> Answer {
     match pool.held(get) {
-        None => gave_up(pool.give_up(at, get, reason, broken)),
+        None => told_of_give_up(pool.give_up(at, get, reason, broken)),
         Some(held) => {
             let hint = known.records.place(held);
-            gave_up(pool.give_back(at, get, reason, held, broken, hint))
+            told_of_give_up(pool.give_back(at, get, reason, held, broken, hint))
         }
     }
 }
@@ -179,6 +194,20 @@ fn put_back(pool: &mut PoolInternals<u64>, at: Moment, key: Key, broken: bool) -
             Answer::Closed(key.number, grant, number_of(notified))
         }
         Err(_) => Answer::Unfit,
+    }
+}
+
+fn detach(pool: &mut PoolInternals<u64>, at: Moment, key: Key) -> Answer {
+    told_of_detach(pool.detach(at, key), key.number)
+}
+
+/// What a leaving of the connection of this number answers.
+fn told_of_detach(answer: Result<DetachAnswer, Unfit>, number: u64) -> Answer {
+    match answer {
+        Ok(DetachAnswer::Detached(grant, notified)) => {
+            Answer::Closed(number, grant, number_of(notified))
+        }
+        Err(Unfit) => Answer::Unfit,
     }
 }
 
@@ -202,7 +231,12 @@ fn opened(pool: &mut PoolInternals<u64>, at: Moment, key: Key) -> Answer {
 }
 
 fn failed(pool: &mut PoolInternals<u64>, at: Moment, key: Key) -> Answer {
-    match pool.failed(at, key) {
+    told_of_failed(pool.failed(at, key))
+}
+
+/// What a failed opening answers.
+fn told_of_failed(answer: Result<FailedAnswer, Unfit>) -> Answer {
+    match answer {
         Ok(FailedAnswer::GivenBack) => Answer::GivenBack,
         Err(Unfit) => Answer::Unfit,
     }
@@ -223,7 +257,16 @@ fn add(pool: &mut PoolInternals<u64>, known: &mut Known, at: Moment, broken: boo
 }
 
 fn reap(pool: &mut PoolInternals<u64>, at: Moment) -> Answer {
-    match pool.reap(at) {
+    told_of_reap(pool.reap(at))
+}
+
+fn retire(pool: &mut PoolInternals<u64>, at: Moment) -> Answer {
+    told_of_reap(pool.retire(at))
+}
+
+/// What a reap or a retire answers.
+fn told_of_reap(answer: ReapAnswer) -> Answer {
+    match answer {
         ReapAnswer::Reaped {
             closed,
             by_idle,
@@ -254,13 +297,20 @@ fn leave(pool: &mut PoolInternals<u64>, at: Moment) -> Answer {
     }
 }
 
+fn close(pool: &mut PoolInternals<u64>, at: Moment) -> Answer {
+    match pool.close(at) {
+        Ok(LeaveAnswer::Left(closed)) => Answer::Left(closed),
+        Err(Unfit) => Answer::Unfit,
+    }
+}
+
 fn look(pool: &mut PoolInternals<u64>, at: Moment) -> Answer {
     let seen = pool.look(at);
     Answer::Looked(seen.moment, seen.alive)
 }
 
-/// What an event is answered: `Unfit` where it does not fit, and then nothing changes. The connection of a record is its number; that of
-/// an `Add` is the next number.
+/// What an event is answered: `Unfit` where it does not fit, and then nothing changes. The
+/// connection of a record is its number; that of an `Add` is the next number.
 pub fn apply(pool: &mut PoolInternals<u64>, known: &mut Known, event: Event) -> Answer {
     let place = known.place(event.act);
     match event.act {
@@ -281,22 +331,26 @@ pub fn apply(pool: &mut PoolInternals<u64>, known: &mut Known, event: Event) -> 
             )
         }
         Act::PutBack(number, broken) => put_back(pool, event.at, Key { number, place }, broken),
+        Act::Detach(number) => detach(pool, event.at, Key { number, place }),
         Act::Fill(claimed) => Answer::Granted(pool.fill(event.at, claimed)),
+        Act::Ask => Answer::Granted(pool.ask(event.at)),
         Act::Claim => claim(pool, known, event.at),
         Act::Opened(number) => opened(pool, event.at, Key { number, place }),
         Act::Failed(number) => failed(pool, event.at, Key { number, place }),
         Act::Add(broken) => add(pool, known, event.at, broken),
         Act::Reap => reap(pool, event.at),
+        Act::Retire => retire(pool, event.at),
         Act::State => Answer::Shown(pool.state(event.at)),
         Act::Join => join(pool, event.at),
         Act::Leave => leave(pool, event.at),
+        Act::Close => close(pool, event.at),
         Act::Look => look(pool, event.at),
     }
 }
 
-/// What the events are answered, one answer each, from the empty state on, and the state that they leave. An event that does not fit
-/// answers `Unfit` and changes nothing. `Memory` comes only where the list of answers could not grow: want of memory inside a step is
-/// that step's answer.
+/// What the events are answered, one answer each, from the empty state on, and the state that they
+/// leave. An event that does not fit answers `Unfit` and changes nothing. `Memory` comes only where
+/// the list of answers could not grow: want of memory inside a step is that step's answer.
 pub fn replay(
     alloc: Global,
     config: Config,

@@ -29,6 +29,10 @@ pub struct Counters {
     pub max_lifetime: u64,
     /// Connections that were closed as they had been idle too long.
     pub idle_timeout: u64,
+    /// Connections that were closed as they had been retired.
+    pub retired: u64,
+    /// Connections that left the pool for good.
+    pub detached: u64,
 }
 
 /// The whole microseconds since a get first waited, if it waited.
@@ -53,6 +57,8 @@ impl Counters {
         invalid: 0,
         max_lifetime: 0,
         idle_timeout: 0,
+        retired: 0,
+        detached: 0,
     };
 
     /// A get was served that first waited then, if it waited.
@@ -68,7 +74,8 @@ impl Counters {
         }
     }
 
-    /// A get was given up that first waited then, if it waited. How long it waited counts only where it timed out.
+    /// A get was given up that first waited then, if it waited. How long it waited counts only
+    /// where it timed out.
     pub fn give_up(&mut self, reason: Reason, first_wait: Option<u64>, now: u64) {
         match reason {
             Reason::TimedOut => {
@@ -81,16 +88,30 @@ impl Counters {
         }
     }
 
-    /// A connection was closed as it came back: it was broken, or else it had lived too long, or neither.
-    pub fn close(&mut self, broken: bool, expired: bool) {
+    /// A connection was closed as it came back: it was broken, or else retired, or else it had
+    /// lived too long, or none of these.
+    pub fn close(&mut self, broken: bool, retired: bool, expired: bool) {
         if broken {
             self.broken += 1;
+        } else if retired {
+            self.retired += 1;
         } else if expired {
             self.max_lifetime += 1;
         }
     }
 
-    /// Connections were closed, so many as they had been idle too long, and so many others as they had lived too long.
+    /// Connections were closed that were idle as all were retired.
+    pub fn retire(&mut self, closed: u32) {
+        self.retired += closed as u64;
+    }
+
+    /// A connection left for good.
+    pub fn detach(&mut self) {
+        self.detached += 1;
+    }
+
+    /// Connections were closed, so many as they had been idle too long, and so many others as they
+    /// had lived too long.
     pub fn reap(&mut self, by_idle: u32, by_life: u32) {
         self.max_lifetime += by_life as u64;
         self.idle_timeout += by_idle as u64;
@@ -110,6 +131,8 @@ impl Counters {
             connections_closed_invalid: self.invalid,
             connections_closed_max_lifetime: self.max_lifetime,
             connections_closed_idle_timeout: self.idle_timeout,
+            connections_closed_retired: self.retired,
+            connections_detached: self.detached,
         }
     }
 }

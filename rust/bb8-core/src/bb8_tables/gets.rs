@@ -94,6 +94,11 @@ impl Gets {
         self.alive
     }
 
+    /// How many waiters were not notified.
+    pub fn unnotified(&self) -> u64 {
+        self.slots.len() as u64
+    }
+
     /// Makes room for a higher peak. Waiting needs no memory.
     #[cold]
     fn make_room(&mut self) -> Result<(), AllocError> {
@@ -146,7 +151,8 @@ impl Gets {
         GetKey { number, place }
     }
 
-    /// Begins a get of the next number that waits at once, since this moment, for which there is room.
+    /// Begins a get of the next number that waits at once, since this moment, for which there is
+    /// room.
     #[inline(always)]
     pub fn bear_waiting(&mut self, now: u64, lendings: &mut Lendings) -> GetKey {
         let number = self.next;
@@ -185,7 +191,8 @@ impl Gets {
         Some(self.bear())
     }
 
-    /// Has a get wait, which did not wait or was notified, since this moment if it did not wait before.
+    /// Has a get wait, which did not wait or was notified, since this moment if it did not wait
+    /// before.
     pub fn wait(&mut self, g: GetKey, now: u64, lendings: &mut Lendings) {
         match self.slots.locate(g.number, g.place, lendings) {
             None => {}
@@ -196,7 +203,8 @@ impl Gets {
         }
     }
 
-    /// Has a get stand elsewhere that stands in no line: it holds a connection now, or is active again.
+    /// Has a get stand elsewhere that stands in no line: it holds a connection now, or is active
+    /// again.
     pub fn turn(&mut self, g: GetKey, place: GetPlace, lendings: &mut Lendings) {
         match self.slots.locate(g.number, g.place, lendings) {
             None => {}
@@ -219,7 +227,8 @@ impl Gets {
         }
     }
 
-    /// Has a get that holds a connection be active again, and tells which it held. Where it holds none nothing changes. It looks for it once.
+    /// Has a get that holds a connection be active again, and tells which it held. Where it holds
+    /// none nothing changes. It looks for it once.
     #[inline]
     pub fn let_go(&mut self, g: GetKey, lendings: &mut Lendings) -> Option<u64> {
         match self.slots.locate(g.number, g.place, lendings) {
@@ -234,7 +243,8 @@ impl Gets {
         }
     }
 
-    /// Ends a get that is alive and holds nothing, and tells how it stood. Where there is none nothing changes. It looks for it once.
+    /// Ends a get that is alive and holds nothing, and tells how it stood. Where there is none
+    /// nothing changes. It looks for it once.
     #[inline(always)]
     pub fn end(&mut self, g: GetKey, lendings: &mut Lendings) -> Option<Getting> {
         match self.slots.locate(g.number, g.place, lendings) {
@@ -263,7 +273,8 @@ impl Gets {
         }
     }
 
-    /// Ends a get that holds a connection, and tells which, and when it first waited. Where it holds none nothing changes. It looks for it once.
+    /// Ends a get that holds a connection, and tells which, and when it first waited. Where it
+    /// holds none nothing changes. It looks for it once.
     #[inline(always)]
     pub fn finish_holding(
         &mut self,

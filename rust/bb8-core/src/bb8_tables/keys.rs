@@ -1,7 +1,7 @@
 //! Names of connections, approvals and gets.
 
-/// Names a connection or an approval by its number. Where it stands is kept beside the number as a hint, which may be stale and changes
-/// no answer.
+/// Names a connection or an approval by its number. Where it stands is kept beside the number as a
+/// hint, which may be stale and changes no answer.
 #[derive(Clone, Copy, Debug)]
 pub struct Key {
     /// The number.

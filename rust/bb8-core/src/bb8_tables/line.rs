@@ -1,4 +1,5 @@
-//! Places in an order that links from place to place keep: a place enters at the new end, and leaves wherever it stands.
+//! Places in an order that links from place to place keep: a place enters at the new end, and
+//! leaves wherever it stands.
 
 use crate::kit::Vec;
 use crate::kit::{AllocError, Global};

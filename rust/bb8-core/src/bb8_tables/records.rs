@@ -13,8 +13,9 @@ use crate::bb8_types::standing::{Holder, Place, Standing};
 pub use reaps::Reaped;
 use crate::kit::{AllocError, Global};
 
-/// The table of connections and approvals, with the line of unclaimed approvals and its counters. In the table's line are the idle
-/// connections, by their last entry; in its order of births all connections, idle or out.
+/// The table of connections and approvals, with the line of unclaimed approvals and its counters.
+/// In the table's line are the idle connections, by their last entry; in its order of births all
+/// connections, idle or out.
 pub struct Records<C> {
     next: u64,
     slots: Table<Standing<C>>,
@@ -140,6 +141,15 @@ impl<C> Records<C> {
         }
     }
 
+    /// When the connection became idle that is first of the idle ones. One entry is lent.
+    #[inline]
+    pub fn first_entered(&self, strategy: QueueStrategy, lendings: &mut Lendings) -> Option<u64> {
+        match self.slots.first_by(strategy) {
+            None => None,
+            Some(place) => Some(self.slots.at(place, lendings).standing.entered),
+        }
+    }
+
     /// Takes out the idle connection that is first, for whoever holds it from now on.
     #[inline(always)]
     pub fn take(
@@ -175,8 +185,9 @@ impl<C> Records<C> {
         }
     }
 
-    /// Makes a connection idle that a claimed approval brought, and that is born now. Where the number is no claimed approval the connection
-    /// comes back, and nothing changes. No birth and no entry may lie after `now`. It looks for the approval once.
+    /// Makes a connection idle that a claimed approval brought, and that is born now. Where the
+    /// number is no claimed approval the connection comes back, and nothing changes. No birth and
+    /// no entry may lie after `now`. It looks for the approval once.
     pub fn enter(&mut self, k: Key, conn: C, now: u64, lendings: &mut Lendings) -> Result<(), C> {
         match self.slots.locate(k.number, k.place, lendings) {
             None => Err(conn),
@@ -199,9 +210,11 @@ impl<C> Records<C> {
         }
     }
 
-    /// Takes back a connection that somebody holds, which is idle again and keeps its birth. Where it is broken, or older than `greatest_age`, or
-    /// the pool has ended, it is handed back instead, with whether it is older than that, and nothing changes. Where the holder does not have
-    /// it, it comes back, and nothing changes. No birth and no entry may lie after `now`. It looks for the connection once.
+    /// Takes back a connection that somebody holds, which is idle again and keeps its birth. Where
+    /// it is broken, or older than `greatest_age`, or the pool has ended, it is handed back
+    /// instead, with whether it is older than that, and nothing changes. Where the holder does not
+    /// have it, it comes back, and nothing changes. No birth and no entry may lie after `now`. It
+    /// looks for the connection once.
     #[inline(always)]
     pub fn put_back(
         &mut self,
@@ -238,7 +251,8 @@ impl<C> Records<C> {
         }
     }
 
-    /// Ends a claimed approval, and tells whether the number is one. Where it is none nothing changes. It looks for it once.
+    /// Ends a claimed approval, and tells whether the number is one. Where it is none nothing
+    /// changes. It looks for it once.
     pub fn end_claimed(&mut self, k: Key, lendings: &mut Lendings) -> bool {
         match self.slots.locate(k.number, k.place, lendings) {
             None => false,
@@ -304,7 +318,8 @@ impl<C> Records<C> {
         }
     }
 
-    /// Ends all that nobody holds or claimed: the idle connections, which are counted and offered to a list, and the unclaimed approvals.
+    /// Ends all that nobody holds or claimed: the idle connections, which are counted and offered
+    /// to a list, and the unclaimed approvals.
     pub fn leave(&mut self, closed: &mut ClosedList<C>) -> u32 {
         let many = self.end_idles(closed);
         self.end_unclaimeds();
@@ -344,8 +359,8 @@ impl<C> Records<C> {
         Key { number, place }
     }
 
-    /// Adds an idle connection that was born now. Memory is asked for only where there are as many records as ever were. No birth and no
-    /// entry may lie after `now`.
+    /// Adds an idle connection that was born now. Memory is asked for only where there are as many
+    /// records as ever were. No birth and no entry may lie after `now`.
     pub fn add(&mut self, conn: C, now: u64) -> Result<Key, C> {
         if !self.make_room_for_one() {
             return Err(conn);
@@ -375,7 +390,8 @@ impl<C> Records<C> {
         self.approved += 1;
     }
 
-    /// Grants the approvals that are due, as far as there is room and memory. All room is made before the first one.
+    /// Grants the approvals that are due, as far as there is room and memory. All room is made
+    /// before the first one.
     #[cold]
     fn grant_some(&mut self, due: u64, claimed: bool) -> Grant {
         let taken = self.conns + self.approved;

@@ -47,8 +47,9 @@ impl Vacant for Getting {
     }
 }
 
-/// Places, with the line of those that stand in it, and those of connections by birth. Ended places are used again, the last one first. No
-/// place is the first one, which stands for the ends of both orders.
+/// Places, with the line of those that stand in it, and those of connections by birth. Ended places
+/// are used again, the last one first. No place is the first one, which stands for the ends of both
+/// orders.
 pub struct Table<S> {
     slots: Vec<Slot<S>>,
     line: Line,
@@ -126,7 +127,8 @@ impl<S> Table<S> {
         }
     }
 
-    /// What stands under the number: at the hint, or else where a search finds it, which is counted. One entry is lent.
+    /// What stands under the number: at the hint, or else where a search finds it, which is
+    /// counted. One entry is lent.
     #[inline]
     pub fn slot(&self, number: u64, hint: usize, lendings: &mut Lendings) -> Option<&Slot<S>> {
         lendings.lend();
@@ -182,7 +184,8 @@ impl<S> Table<S> {
         self.births.first()
     }
 
-    /// What stands at a place, and the place after it in the order of births. One entry is lent for both.
+    /// What stands at a place, and the place after it in the order of births. One entry is lent for
+    /// both.
     #[inline]
     pub fn pass(&self, place: usize, lendings: &mut Lendings) -> (&Slot<S>, Option<usize>) {
         let next = self.births.next(place);
@@ -281,8 +284,9 @@ impl<S: Vacant> Table<S> {
         Ok(())
     }
 
-    /// Makes room for so many more in all. Where there is none yet, as many places more are added as there are, up to `MOST_AT_ONCE`, so that
-    /// most calls find room; where memory for those is refused, as many as are missing.
+    /// Makes room for so many more in all. Where there is none yet, as many places more are added
+    /// as there are, up to `MOST_AT_ONCE`, so that most calls find room; where memory for those is
+    /// refused, as many as are missing.
     pub fn reserve(&mut self, additional: usize) -> Result<(), AllocError> {
         let missing = additional.saturating_sub(self.free.len());
         if missing == 0 {

@@ -1,4 +1,5 @@
-//! What a user of the pool names: configuration, moments, figures, errors, and the traits that a user implements.
+//! What a user of the pool names: configuration, moments, figures, errors, and the traits that a
+//! user implements.
 
 mod clocks;
 mod configuration;

@@ -3,7 +3,7 @@
 
 use crate::core::*;
 use bb8_core::api::{Config, State};
-use bb8_core::internals::{LeaveAnswer, Looked, PoolInternals, Unfit};
+use bb8_core::internals::{LeaveAnswer, PoolInternals, Unfit};
 use bb8_core::kit::Global;
 use bb8_core::replay::{replay, Act, Answer, Event};
 
@@ -33,6 +33,23 @@ fn of_give_up<C>(answer: &GiveUpAnswer<C>) -> Answer {
         GiveUpAnswer::Closed(key, _, grant, get) => {
             Answer::Closed(key.number, *grant, number(*get))
         }
+    }
+}
+
+fn of_reap(answer: ReapAnswer) -> Answer {
+    match answer {
+        ReapAnswer::Reaped {
+            closed,
+            by_idle,
+            by_life,
+            grant,
+        } => Answer::Reaped {
+            closed,
+            by_idle,
+            by_life,
+            grant,
+        },
+        ReapAnswer::Ended => Answer::Ended,
     }
 }
 
@@ -79,6 +96,15 @@ impl<C> Noted<C> {
         events.len()
     }
 
+    /// How many asks were granted something.
+    pub(crate) fn asked(&self) -> usize {
+        let granted = |answer: &Answer| matches!(answer, Answer::Granted(it) if it.count > 0);
+        let asked = self.notes.iter();
+        asked
+            .filter(|(event, answer)| event.act == Act::Ask && granted(answer))
+            .count()
+    }
+
     /// Makes the journal wrong: as if the last event had been answered otherwise.
     pub(crate) fn falsify(&mut self) {
         let (_, answer) = self.notes.last_mut().expect("something happened");
@@ -104,12 +130,8 @@ impl<C> Noted<C> {
         self.core.idle()
     }
 
-    pub(crate) fn fits_join(&self) -> bool {
-        self.core.fits_join()
-    }
-
-    pub(crate) fn closed_by_leave(&self) -> u32 {
-        self.core.closed_by_leave()
+    pub(crate) fn fits_close(&self) -> bool {
+        self.core.fits_close()
     }
 
     pub(crate) fn serve_at_once(&mut self, at: Moment) -> Option<AtOnce<Held<C>>> {
@@ -276,35 +298,35 @@ impl<C> Noted<C> {
 
     pub(crate) fn reap_into(&mut self, at: Moment, list: &mut ClosedList<Held<C>>) -> ReapAnswer {
         let answer = self.core.reap_into(at, list);
-        let noted = match answer {
-            ReapAnswer::Reaped {
-                closed,
-                by_idle,
-                by_life,
-                grant,
-            } => Answer::Reaped {
-                closed,
-                by_idle,
-                by_life,
-                grant,
-            },
-            ReapAnswer::Ended => Answer::Ended,
-        };
-        self.note(at, Act::Reap, noted);
+        self.note(at, Act::Reap, of_reap(answer));
         answer
     }
 
-    pub(crate) fn leave_into(&mut self, at: Moment, list: &mut ClosedList<Held<C>>) -> LeaveAnswer {
-        let answer = self.core.leave_into(at, list);
+    pub(crate) fn retire_into(&mut self, at: Moment, list: &mut ClosedList<Held<C>>) -> ReapAnswer {
+        let answer = self.core.retire_into(at, list);
+        self.note(at, Act::Retire, of_reap(answer));
+        answer
+    }
+
+    pub(crate) fn detach(&mut self, at: Moment, key: Key) -> Result<DetachAnswer, Unfit> {
+        let answer = self.core.detach(at, key)?;
+        let DetachAnswer::Detached(grant, get) = answer;
+        let noted = Answer::Closed(key.number, grant, number(get));
+        self.note(at, Act::Detach(key.number), noted);
+        Ok(answer)
+    }
+
+    pub(crate) fn ask(&mut self, at: Moment) -> Grant {
+        let grant = self.core.ask(at);
+        self.note(at, Act::Ask, Answer::Granted(grant));
+        grant
+    }
+
+    pub(crate) fn close_into(&mut self, at: Moment, list: &mut ClosedList<Held<C>>) -> LeaveAnswer {
+        let answer = self.core.close_into(at, list);
         let LeaveAnswer::Left(closed) = answer;
-        self.note(at, Act::Leave, Answer::Left(closed));
+        self.note(at, Act::Close, Answer::Left(closed));
         answer
-    }
-
-    pub(crate) fn look(&mut self, at: Moment) -> Looked {
-        let seen = self.core.look(at);
-        self.note(at, Act::Look, Answer::Looked(seen.moment, seen.alive));
-        seen
     }
 
     pub(crate) fn state(&mut self, at: Moment) -> State {

@@ -1,16 +1,21 @@
-//! Storms: many tasks get, cancel, time out, break, fail checks, add and reap. Afterwards nothing
-//! is lost, and every step was answered as the proved `replay` answers it.
+//! Storms: many tasks get, try, cancel, time out, break, fail checks, release, detach, add, reap
+//! and retire, and ask again for attempts that failed. Afterwards nothing is lost, the pool is
+//! closed, the statistics are those that were counted outside of the pool, and every step was
+//! answered as the proved `replay` answers it.
 
-use crate::{ManageConnection, Pool, QueueStrategy, State};
-use std::sync::atomic::{AtomicU32, AtomicU64, Ordering};
+use crate::{
+    CustomizeConnection, ManageConnection, Pool, PooledConnection, QueueStrategy, RunError, State,
+};
+use std::sync::atomic::{AtomicU64, Ordering};
 use std::sync::Arc;
 use std::time::Duration;
 use tokio::time::{sleep, timeout};
 
-#[derive(Debug)]
+#[derive(Debug, PartialEq)]
 struct Refused;
 
 /// A small generator of numbers.
+#[derive(Debug)]
 struct Dice(AtomicU64);
 
 impl Dice {
@@ -28,23 +33,80 @@ impl Dice {
     }
 }
 
-struct Wild {
-    dice: Dice,
-    open: Arc<AtomicU32>,
+/// How many connections there were, counted outside of the pool.
+#[derive(Debug, Default)]
+struct Tally {
+    opened: AtomicU64,
+    dropped: AtomicU64,
+    by_manager: AtomicU64,
+    added: AtomicU64,
+    detached: AtomicU64,
+    not_kept: AtomicU64,
+    tried: AtomicU64,
 }
 
-struct Connection(Arc<AtomicU32>);
+impl Tally {
+    fn add(count: &AtomicU64) {
+        count.fetch_add(1, Ordering::SeqCst);
+    }
+
+    /// All opened and dropped ones, those that the manager opened, that were added and detached.
+    fn counts(&self) -> [u64; 5] {
+        let opened = [&self.opened, &self.dropped, &self.by_manager];
+        let [opened, dropped, by_manager] = opened.map(|count| count.load(Ordering::SeqCst));
+        let [added, detached] = [&self.added, &self.detached].map(|it| it.load(Ordering::SeqCst));
+        [opened, dropped, by_manager, added, detached]
+    }
+}
+
+/// Compares the state of a pool in which nothing is under way with the counts of then.
+fn compare(state: &State, [opened, dropped, by_manager, added, detached]: [u64; 5]) {
+    let seen = &state.statistics;
+    let created = (seen.connections_created, seen.connections_added);
+    assert_eq!(created, (by_manager, added));
+    // Their tasks dropped those that could not be added, and those that were detached.
+    let refused = opened - by_manager - added;
+    assert_eq!(seen.connections_closed, dropped - refused - detached);
+    assert_eq!(seen.connections_detached, detached);
+    let ended = seen.connections_closed + detached + u64::from(state.connections);
+    assert_eq!(seen.connections_created + seen.connections_added, ended);
+}
+
+struct Wild {
+    dice: Dice,
+    tally: Arc<Tally>,
+}
+
+/// A connection, and whether the pool may use it again.
+struct Connection(Arc<Tally>, bool);
 
 impl Connection {
-    fn open(open: &Arc<AtomicU32>) -> Self {
-        open.fetch_add(1, Ordering::SeqCst);
-        Connection(open.clone())
+    fn open(tally: &Arc<Tally>) -> Self {
+        Tally::add(&tally.opened);
+        Connection(tally.clone(), true)
     }
 }
 
 impl Drop for Connection {
     fn drop(&mut self) {
-        self.0.fetch_sub(1, Ordering::SeqCst);
+        Tally::add(&self.0.dropped);
+    }
+}
+
+/// Keeps most connections.
+#[derive(Debug)]
+struct Picky {
+    dice: Dice,
+    tally: Arc<Tally>,
+}
+
+impl CustomizeConnection<Connection, Refused> for Picky {
+    fn on_release(&self, conn: &mut Connection) -> bool {
+        conn.1 = self.dice.roll(40) > 0;
+        if !conn.1 {
+            Tally::add(&self.tally.not_kept);
+        }
+        conn.1
     }
 }
 
@@ -58,7 +120,8 @@ impl ManageConnection for Wild {
             1 => sleep(Duration::from_millis(self.dice.roll(6))).await,
             _ => tokio::task::yield_now().await,
         }
-        Ok(Connection::open(&self.open))
+        Tally::add(&self.tally.by_manager);
+        Ok(Connection::open(&self.tally))
     }
 
     async fn is_valid(&self, _: &mut Connection) -> Result<(), Refused> {
@@ -71,7 +134,8 @@ impl ManageConnection for Wild {
         Ok(())
     }
 
-    fn has_broken(&self, _: &mut Connection) -> bool {
+    fn has_broken(&self, conn: &mut Connection) -> bool {
+        assert!(conn.1, "it was not to be kept");
         self.dice.roll(40) == 0
     }
 }
@@ -79,8 +143,10 @@ impl ManageConnection for Wild {
 #[derive(Clone, Copy, Debug)]
 struct Weather {
     check: bool,
+    test_after: Duration,
     fair_after: Option<Duration>,
     order: QueueStrategy,
+    jitter: f64,
     tasks: u64,
     rounds: u64,
     /// How long a get may take.
@@ -89,16 +155,40 @@ struct Weather {
     paused: bool,
 }
 
+/// Adds a connection, if the pool takes it.
+fn add(pool: &Pool<Wild>, tally: &Arc<Tally>) {
+    if pool.add(Connection::open(tally)).is_ok() {
+        Tally::add(&tally.added);
+    }
+}
+
 /// What one task does.
-async fn rounds(pool: Pool<Wild>, open: Arc<AtomicU32>, dice: Dice, rounds: u64) {
+async fn rounds(pool: Pool<Wild>, tally: Arc<Tally>, dice: Dice, rounds: u64) {
     let brief = || Duration::from_micros(dice.roll(3000));
     for _ in 0..rounds {
-        match dice.roll(16) {
+        match dice.roll(23) {
             0..=2 => drop(timeout(brief(), pool.get()).await),
             3 => drop(pool.get_owned().await),
-            4 => drop(pool.add(Connection::open(&open))),
+            4 => add(&pool, &tally),
             5 => drop(pool.state()),
             6 => sleep(brief() * 4).await,
+            7..=9 => {
+                if let Ok(Some(conn)) = pool.try_get().await {
+                    Tally::add(&tally.tried);
+                    sleep(brief()).await;
+                    drop(conn);
+                }
+            }
+            10 => drop(timeout(brief(), pool.try_get_owned()).await),
+            11 | 12 => drop(pool.get_timeout(brief() * 2).await),
+            13 if dice.roll(5) == 0 => {
+                if let Ok(conn) = pool.get().await {
+                    let conn = PooledConnection::detach(conn);
+                    Tally::add(&tally.detached);
+                    drop(conn);
+                }
+            }
+            14 if dice.roll(20) == 0 => pool.retire(),
             _ => {
                 if let Ok(conn) = pool.get().await {
                     match dice.roll(4) {
@@ -112,13 +202,16 @@ async fn rounds(pool: Pool<Wild>, open: Arc<AtomicU32>, dice: Dice, rounds: u64)
     }
 }
 
-/// A moment at which nothing is under way; the reaper goes on, so it is sought.
-async fn calm(pool: &Pool<Wild>, open: &AtomicU32) -> State {
+/// The state at a moment at which nothing is under way, and the counts of then; the reaper goes on,
+/// so it is sought.
+async fn calm(pool: &Pool<Wild>, tally: &Tally) -> (State, [u64; 5]) {
     for _ in 0..5000 {
+        let counts = tally.counts();
         let state = pool.state();
-        let there = open.load(Ordering::SeqCst);
-        if state.connections == state.idle_connections && state.connections == there {
-            return state;
+        let is_there = counts[0] - counts[1] == u64::from(state.connections);
+        let is_idle = state.connections == state.idle_connections;
+        if is_there && is_idle && tally.counts() == counts {
+            return (state, counts);
         }
         sleep(Duration::from_millis(1)).await;
     }
@@ -126,34 +219,48 @@ async fn calm(pool: &Pool<Wild>, open: &AtomicU32) -> State {
 }
 
 async fn storm(weather: Weather) {
-    let open = Arc::new(AtomicU32::new(0));
+    let tally: Arc<Tally> = Arc::default();
     let manager = Wild {
         dice: Dice::new(0),
-        open: open.clone(),
+        tally: tally.clone(),
+    };
+    let customizer = Picky {
+        dice: Dice::new(1000),
+        tally: tally.clone(),
     };
     let pool = Pool::builder()
         .max_size(5)
         .min_idle(2)
         .test_on_check_out(weather.check)
+        .test_on_check_out_after(weather.test_after)
         .queue_strategy(weather.order)
         .fair_after(weather.fair_after)
         .connection_timeout(weather.patience)
+        // Then each failure of an attempt is final, and those that wait ask again.
+        .retry_connection(weather.check)
+        .connection_customizer(Box::new(customizer))
         .max_lifetime(Duration::from_millis(12))
+        .max_lifetime_jitter(weather.jitter)
         .idle_timeout(Duration::from_millis(4))
         .reaper_rate(Duration::from_millis(3))
         .build_unchecked(manager);
     let tasks: Vec<_> = (1..=weather.tasks)
         .map(|task| {
-            let all = rounds(pool.clone(), open.clone(), Dice::new(task), weather.rounds);
+            let all = rounds(pool.clone(), tally.clone(), Dice::new(task), weather.rounds);
             tokio::spawn(all)
         })
         .collect();
     for task in tasks {
         task.await.unwrap();
     }
+    // Some more, as those that were retired or detached left few that are idle for long.
+    for _ in 0..20 {
+        add(&pool, &tally);
+        sleep(Duration::from_millis(1)).await;
+    }
     // Long enough for idle connections to be closed, as nobody takes them.
     sleep(Duration::from_millis(30)).await;
-    let state = calm(&pool, &open).await;
+    let (state, outside) = calm(&pool, &tally).await;
     let seen = &state.statistics;
     assert_eq!(seen.pending_gets(), 0);
     // By the machine's clock, which limit comes first is the machine's matter.
@@ -170,63 +277,100 @@ async fn storm(weather: Weather) {
         seen.get_cancelled,
         seen.connections_created,
         seen.connections_closed_broken,
-        seen.connections_closed_invalid + u64::from(!weather.check),
-        ages[0],
+        // Hardly one is checked that is fresh so long.
+        seen.connections_closed_invalid
+            + u64::from(!weather.check || !weather.test_after.is_zero()),
+        // With jitter most are past their own ends before.
+        ages[0] + u64::from(weather.jitter > 0.0),
         // In a fair pool hardly one is idle long enough.
         ages[1] + u64::from(weather.fair_after.is_some()),
+        seen.connections_closed_retired,
+        seen.connections_detached,
+        tally.tried.load(Ordering::SeqCst),
+        tally.not_kept.load(Ordering::SeqCst),
     ];
     println!("{weather:?}: {state:?}");
-    let opened = seen.connections_created + seen.connections_added;
-    let ended = seen.connections_closed + u64::from(state.connections);
-    assert_eq!(opened, ended);
+    compare(&state, outside);
     assert!(seen.connections_failed > 0 && seen.connections_added > 0);
     assert!(counts.iter().all(|count| *count > 0), "{counts:?}");
-    let inner = pool.inner.clone();
-    drop(pool);
-    let steps = inner.locked().core.judge();
-    println!("{steps} steps are those of the replay");
-    assert!(steps as u64 > weather.tasks * weather.rounds);
-    drop(inner);
-    for _ in 0..5000 {
-        if open.load(Ordering::SeqCst) == 0 {
-            return;
-        }
-        sleep(Duration::from_millis(1)).await;
-    }
-    panic!("a connection outlives its pool");
+    close(pool, &tally, weather).await;
 }
 
-/// The kinds of weather.
-const KINDS: [(bool, QueueStrategy, Option<Duration>); 8] = [
-    (true, QueueStrategy::Fifo, None),
-    (true, QueueStrategy::Lifo, None),
-    (false, QueueStrategy::Fifo, None),
-    (false, QueueStrategy::Lifo, None),
-    (true, QueueStrategy::Fifo, Some(Duration::ZERO)),
-    (false, QueueStrategy::Lifo, Some(Duration::ZERO)),
-    (true, QueueStrategy::Lifo, Some(Duration::from_millis(1))),
-    (false, QueueStrategy::Fifo, Some(Duration::from_millis(1))),
+/// Closes a pool while tasks use it. No connection is left then, and the replay agrees.
+async fn close(pool: Pool<Wild>, tally: &Arc<Tally>, weather: Weather) {
+    let uses = (0..weather.tasks).map(|task| {
+        let (pool, dice) = (pool.clone(), Dice::new(2000 + task));
+        tokio::spawn(async move {
+            loop {
+                match pool.get_owned().await {
+                    Ok(_conn) => sleep(Duration::from_micros(dice.roll(900))).await,
+                    Err(RunError::Closed) => return,
+                    Err(error) => assert_eq!(error, RunError::TimedOut),
+                }
+            }
+        })
+    });
+    let uses: Vec<_> = uses.collect();
+    sleep(Duration::from_millis(5)).await;
+    timeout(Duration::from_secs(5), pool.close()).await.unwrap();
+    let [opened, dropped, ..] = tally.counts();
+    assert_eq!(opened, dropped);
+    for task in uses {
+        task.await.unwrap();
+    }
+    let (state, mut counts) = (pool.state(), tally.counts());
+    // What came too late was never the pool's, as what it refused.
+    assert!(state.statistics.connections_created <= counts[2]);
+    counts[2] = state.statistics.connections_created;
+    compare(&state, counts);
+    assert_eq!(state.statistics.pending_gets(), 0);
+    let core = &pool.inner.locked().core;
+    let (steps, asked) = (core.judge(), core.asked());
+    println!("{steps} steps, {asked} of them granted asks, are those of the replay");
+    assert!(steps as u64 > weather.tasks * weather.rounds);
+    assert!(asked > 0 || weather.check);
+}
+
+/// A kind of weather: the check, after how many milliseconds, the order, after how many
+/// milliseconds gets are handed connections, and the jitter.
+type Kind = (bool, u64, QueueStrategy, Option<u64>, f64);
+
+const KINDS: [Kind; 12] = [
+    (true, 0, QueueStrategy::Fifo, None, 0.0),
+    (true, 0, QueueStrategy::Lifo, None, 0.0),
+    (false, 0, QueueStrategy::Fifo, None, 0.0),
+    (false, 0, QueueStrategy::Lifo, None, 0.0),
+    (true, 0, QueueStrategy::Fifo, Some(0), 0.0),
+    (false, 0, QueueStrategy::Lifo, Some(0), 0.0),
+    (true, 0, QueueStrategy::Lifo, Some(1), 0.0),
+    (false, 0, QueueStrategy::Fifo, Some(1), 0.0),
+    (true, 0, QueueStrategy::Fifo, None, 0.5),
+    (false, 0, QueueStrategy::Lifo, Some(0), 0.5),
+    (true, 1, QueueStrategy::Fifo, None, 0.0),
+    (true, 1, QueueStrategy::Lifo, Some(0), 0.0),
 ];
 
-/// For how long gets wait: in a fair pool hardly one would time out that waits as long as in others.
-fn patience(fair_after: Option<Duration>) -> Duration {
-    Duration::from_millis(if fair_after.is_some() { 3 } else { 6 })
+/// A weather of this kind. In a fair pool hardly a get would time out that waits as long as in
+/// others.
+fn weather((check, test_after, order, fair_after, jitter): Kind, paused: bool) -> Weather {
+    Weather {
+        check,
+        test_after: Duration::from_millis(test_after),
+        fair_after: fair_after.map(Duration::from_millis),
+        order,
+        jitter,
+        tasks: 24,
+        rounds: 400,
+        patience: Duration::from_millis(if fair_after.is_some() { 3 } else { 6 }),
+        paused,
+    }
 }
 
 /// All kinds of weather on four threads.
 #[tokio::test(flavor = "multi_thread", worker_threads = 4)]
 async fn four_threads_by_the_machine_s_clock() {
-    for (check, order, fair_after) in KINDS {
-        storm(Weather {
-            check,
-            fair_after,
-            order,
-            tasks: 24,
-            rounds: 400,
-            patience: patience(fair_after),
-            paused: false,
-        })
-        .await;
+    for kind in KINDS {
+        storm(weather(kind, false)).await;
     }
 }
 
@@ -234,16 +378,7 @@ async fn four_threads_by_the_machine_s_clock() {
 /// between tries and reaps come at moments of that clock.
 #[tokio::test(start_paused = true)]
 async fn one_thread_by_a_paused_clock() {
-    for (check, order, fair_after) in KINDS {
-        storm(Weather {
-            check,
-            fair_after,
-            order,
-            tasks: 24,
-            rounds: 400,
-            patience: patience(fair_after),
-            paused: true,
-        })
-        .await;
+    for kind in KINDS {
+        storm(weather(kind, true)).await;
     }
 }

@@ -60,6 +60,22 @@ async fn a_get_and_an_adding_tell_that_memory_was_refused() {
     assert_eq!(open.load(Ordering::SeqCst), 1);
 }
 
+#[tokio::test]
+async fn a_try_tells_that_memory_was_refused() {
+    for check in [false, true] {
+        let open = Arc::new(AtomicU32::new(0));
+        let builder = Pool::builder().min_idle(1).test_on_check_out(check);
+        let pool = builder.build(Counting(open.clone())).await.unwrap();
+        // It is the first get, for which there is no entry yet.
+        let refused = granting(0, || pool.try_get().now_or_never());
+        assert!(matches!(refused, Some(Err(RunError::Memory))));
+        drop(refused);
+        assert_eq!(pool.state().statistics.get_started, 0);
+        assert!(matches!(pool.try_get().await, Ok(Some(_))));
+        assert!(pool.inner.locked().core.judge() > 3);
+    }
+}
+
 #[tokio::test(start_paused = true)]
 async fn a_reap_for_which_memory_was_refused_is_made_up_for() {
     let open = Arc::new(AtomicU32::new(0));
@@ -79,6 +95,27 @@ async fn a_reap_for_which_memory_was_refused_is_made_up_for() {
     assert_eq!(open.load(Ordering::SeqCst), 1);
     granting(0, || drop(pool));
     assert_eq!(open.load(Ordering::SeqCst), 0);
+}
+
+#[tokio::test(start_paused = true)]
+async fn a_retiring_or_a_close_for_which_memory_was_refused_changes_nothing() {
+    let open = Arc::new(AtomicU32::new(0));
+    let builder = Pool::builder().max_size(3).min_idle(3);
+    let pool = builder.build(Counting(open.clone())).await.unwrap();
+    granting(0, || pool.retire());
+    granting(0, || pool.close_now());
+    assert!(!pool.is_closed());
+    assert_eq!(open.load(Ordering::SeqCst), 3);
+    let mut closing = Box::pin(pool.close());
+    assert!(granting(0, || closing.as_mut().now_or_never()).is_none());
+    assert!(!pool.is_closed());
+    // It tries again after a millisecond.
+    closing.await;
+    assert!(pool.is_closed());
+    let counts = pool.state().statistics;
+    let closed = (counts.connections_closed, counts.connections_closed_retired);
+    assert_eq!((open.load(Ordering::SeqCst), closed), (0, (3, 0)));
+    assert!(pool.inner.locked().core.judge() > 3);
 }
 
 /// Three gets and an adding over a pool, each of which may be refused.

@@ -1,6 +1,6 @@
-use Rattle.bb8_core.proofs.Words.{GiveUp, None, reason_of}
+use Rattle.bb8_core.proofs.Words.{GiveUp, None, reason_of, refl, Unfit}
 use Rattle.bb8_core.specs.StepAnswers.{answer_of_give_up}
-use Rattle.bb8_core.proofs.HandedOver.{fits_told, hands_over}
+use Rattle.bb8_core.proofs.HandedOver.{fits_told, hands_over, stays_prompt}
 use Rattle.bb8_core.proofs.handing.give_up.Goals as goal
 
 pub try_of-tried-requires : goal.try_of-tried-requires
@@ -11,6 +11,15 @@ try_of-tried-requires g c =
 pub returns-in-Ok-clause-step : goal.returns-in-Ok-clause-step
 returns-in-Ok-clause-step g c = (
   hands_over c.try_of-tried.new.pool c.args.at.0 (GiveUp c.args.get.number (reason_of c.args.reason) None c.args.broken) (answer_of_give_up c.in-Ok.told) c.notified.result c.try_of-tried.result
-      c.in-Ok.ensures.step.0 c.notified.ensures c.try_of-tried.ensures,
+      c.in-Ok.ensures.step.0 c.notified.ensures c.try_of-tried.ensures.follows,
   tt,
 )
+
+pub returns-in-Ok-clause-order : goal.returns-in-Ok-clause-order
+returns-in-Ok-clause-order g c = stays_prompt _ _ c.try_of-tried.result c.args.at.0 _ _ (returns-in-Ok-clause-step g c).0
+
+pub returns-in-Err-clause-order : goal.returns-in-Err-clause-order
+returns-in-Err-clause-order g c = stays_prompt _ _ None c.args.at.0 (GiveUp c.args.get.number (reason_of c.args.reason) None c.args.broken) Unfit (c.in-Err.ensures.step.0, refl)
+
+pub returns-in-Ok-clause-examined : goal.returns-in-Ok-clause-examined
+returns-in-Ok-clause-examined g c = (_, c.in-Ok.ensures.examined, c.in-Ok.ensures.searched, c.try_of-tried.ensures.few)

@@ -1,6 +1,6 @@
-use Rattle.bb8_core.proofs.Words.{Opened}
+use Rattle.bb8_core.proofs.Words.{Opened, None, refl, Unfit}
 use Rattle.bb8_core.specs.StepAnswers.{answer_of_opened}
-use Rattle.bb8_core.proofs.HandedOver.{fits_told, hands_over}
+use Rattle.bb8_core.proofs.HandedOver.{fits_told, hands_over, stays_prompt}
 use Rattle.bb8_core.proofs.handing.opened.Goals as goal
 
 pub try_of-tried-requires : goal.try_of-tried-requires
@@ -11,6 +11,15 @@ try_of-tried-requires g c =
 pub returns-in-Ok-clause-step : goal.returns-in-Ok-clause-step
 returns-in-Ok-clause-step g c = (
   hands_over c.try_of-tried.new.pool c.args.at.0 (Opened c.args.key.number c.args.conn) (answer_of_opened c.args.key.number c.in-Ok.told) c.notified.result c.try_of-tried.result
-      c.in-Ok.ensures.step.0 (c.notified.ensures c.args.key.number) c.try_of-tried.ensures,
+      c.in-Ok.ensures.step.0 (c.notified.ensures c.args.key.number) c.try_of-tried.ensures.follows,
   tt,
 )
+
+pub returns-in-Ok-clause-order : goal.returns-in-Ok-clause-order
+returns-in-Ok-clause-order g c = stays_prompt _ _ c.try_of-tried.result c.args.at.0 _ _ (returns-in-Ok-clause-step g c).0
+
+pub returns-in-Err-clause-order : goal.returns-in-Err-clause-order
+returns-in-Err-clause-order g c = stays_prompt _ _ None c.args.at.0 (Opened c.args.key.number c.args.conn) Unfit (c.in-Err.ensures.step.0, refl)
+
+pub returns-in-Ok-clause-examined : goal.returns-in-Ok-clause-examined
+returns-in-Ok-clause-examined g c = (_, c.in-Ok.ensures.examined, c.in-Ok.ensures.searched, c.try_of-tried.ensures.few)

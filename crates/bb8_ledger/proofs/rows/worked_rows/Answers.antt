@@ -1,4 +1,5 @@
--- Each row computes: its configuration is lawful, its answers are allowed, and these are the figures at its end.
+-- Each row computes: its configuration is lawful, its answers are allowed, and these are the
+-- figures at its end.
 use Rattle.std.proofs.Common.{refl, arith}
 use Rattle.bb8_ledger.proofs.Evaluated.{by_evaluation, waits_by_evaluation}
 use Rattle.bb8_ledger.proofs.rows.worked_rows.Goals as goal
@@ -15,6 +16,19 @@ returns c = record {
   handed_on = by_evaluation refl refl refl;
   oldest_first = by_evaluation refl refl refl;
   newest_first = by_evaluation refl refl refl;
+  detached_once = by_evaluation refl refl refl;
+  detached_and_made_good = by_evaluation refl refl refl;
+  retired_at_one = by_evaluation refl refl refl;
+  retired_while_opening = by_evaluation refl refl refl;
+  retired_and_made_good = by_evaluation refl refl refl;
+  asked_anew = by_evaluation refl refl refl;
+  asked_for_told = by_evaluation refl refl refl;
+  asked_up_to_the_size = by_evaluation refl refl refl;
+  shut_once = by_evaluation refl refl refl;
+  shut_with_waiters = by_evaluation refl refl refl;
+  checked_after_a_second = by_evaluation refl refl refl;
+  doubted_in_check = by_evaluation refl refl refl;
+  fresh_since_its_entry = by_evaluation refl refl refl;
   check_failed = by_evaluation refl refl refl;
   reaped_at_the_limit = by_evaluation refl refl refl;
   moment_goes_back = by_evaluation refl refl refl;
@@ -38,6 +52,7 @@ returns c = record {
   cancelled_in_check = by_evaluation refl refl refl;
   returned_after_last_handle = by_evaluation refl refl refl;
   order = grind arith;
+  asked_for_all = grind arith;
   waits_of_one_second = waits_by_evaluation refl refl;
   waits_of_thirty_seconds = waits_by_evaluation refl refl;
   waits_of_a_tenth_second = waits_by_evaluation refl refl;

@@ -1,4 +1,5 @@
-//! The gets that answer in one call, and those that are served at their first poll, with the check and without.
+//! The gets that answer in one call, and those that are served at their first poll, with the check
+//! and without.
 
 use super::{TellerPool, Tools};
 use bb8::{Gets, Memory, PoolCalls, PoolParts, Runtime};
@@ -6,8 +7,8 @@ use std::process::Abort;
 use std::time::Duration;
 
 impl<R: Runtime + Abort> Tools<'_, R> {
-    /// Asserts that just the calls of a get that is served at its first poll were made, with a handle of its own or without; and, as it is
-    /// let go, those of a return.
+    /// Asserts that just the calls of a get that is served at its first poll were made, with a
+    /// handle of its own or without; and, as it is let go, those of a return.
     fn lent<G: Drop>(&self, guard: G, is_owned: bool) {
         self.made(match (self.checks, is_owned) {
             (false, false) => "now",
@@ -23,7 +24,8 @@ impl<R: Runtime + Abort> Tools<'_, R> {
         });
     }
 
-    /// Asserts that just these calls were made for an answer that lends nothing, and none as it is let go.
+    /// Asserts that just these calls were made for an answer that lends nothing, and none as it is
+    /// let go.
     fn lent_none<A: Drop>(&self, answer: A, calls: &str) {
         self.made(calls);
         drop(answer);
@@ -31,9 +33,10 @@ impl<R: Runtime + Abort> Tools<'_, R> {
     }
 }
 
-/// Each get once where nothing is idle and it is not to wait, and twice where one connection is, since the first get of a pool finds its
-/// connection by another way; and each that waits until its time has passed. A reading of the clock sets it on by 60 nanoseconds, so 100 have
-/// passed at the second poll, and 200 at the third. At last there is no connection, and one approval is open.
+/// Each get once where nothing is idle and it is not to wait, and twice where one connection is,
+/// since the first get of a pool finds its connection by another way; and each that waits until its
+/// time has passed. A reading of the clock sets it on by 60 nanoseconds, so 100 have passed at the
+/// second poll, and 200 at the third. At last there is no connection, and one approval is open.
 pub(super) fn served<R: Runtime + Abort, L: PoolParts>(
     tools: &Tools<'_, R>,
     pool: &TellerPool<R, L>,
@@ -63,8 +66,9 @@ pub(super) fn served<R: Runtime + Abort, L: PoolParts>(
     Ok(())
 }
 
-/// Gets in one call whose check lasts once; one that is not to wait for a check that lasts; and one that waits, after its check has failed, until
-/// its time has passed. At last there is no connection, and one approval is open.
+/// Gets in one call whose check lasts once; one that is not to wait for a check that lasts; and one
+/// that waits, after its check has failed, until its time has passed. At last there is no
+/// connection, and one approval is open.
 pub(super) fn unserved<R: Runtime + Abort, L: PoolParts>(
     tools: &Tools<'_, R>,
     pool: &TellerPool<R, L>,

@@ -11,6 +11,7 @@ returns-in_default c =
       differ _ _ n.not-max_size,
       differ _ _ n.not-min_idle,
       differ _ _ n.not-check,
+      differ _ _ n.not-test_after,
       differ _ _ n.not-lifetime,
       differ _ _
           n.not-idle,

@@ -1,4 +1,5 @@
-//! A history of two seats that was worked out by hand, with its notes, and with each change for which an audit must say no.
+//! A history of two seats that was worked out by hand, with its notes, and with each change for
+//! which an audit must say no.
 
 use super::event;
 use bb8_core::replay::{Act, Answer, Reason};

@@ -111,8 +111,8 @@ fn both<R: Threads + Wait + Abort + AllocGlobal + Sync, L: Recorded + Send + Syn
     Ok(())
 }
 
-/// `max_size` 1, `min_idle` 1: one seat's first claim answers none; then the other asks for approvals, and the first claims until it is
-/// answered a number, which is 0; the audit says yes.
+/// `max_size` 1, `min_idle` 1: one seat's first claim answers none; then the other asks for
+/// approvals, and the first claims until it is answered a number, which is 0; the audit says yes.
 #[test]
 fn seats_meet(rt: HostRuntime) -> Result<(), Fail> {
     let config = unchecked(1, Some(1));

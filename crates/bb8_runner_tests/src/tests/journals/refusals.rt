@@ -1,5 +1,5 @@
-//! A run of two seats in which any one request for memory is refused, or all from any on, as `gate/refusals/run` makes it. The test holds with
-//! refusals and without.
+//! A run of two seats in which any one request for memory is refused, or all from any on, as
+//! `gate/refusals/run` makes it. The test holds with refusals and without.
 ghost use Rattle.std.specs.Prelude.{◌≡◌, true};
 ghost use Rattle.bb8_types.specs.Settings.{settings_of, is_lawful};
 
@@ -60,7 +60,8 @@ impl<L: Recorded> Maker<L> {
     }
 }
 
-/// Gets begin by one seat, try by the other, and all end: those that were served come back, one of them broken.
+/// Gets begin by one seat, try by the other, and all end. The connections that were served are
+/// returned, one of them broken, or leave with their guards.
 fn plays<R: Wait + Abort, L: Recorded>(
     rt: &R,
     journal: &SharedJournal<L>,
@@ -86,7 +87,12 @@ fn plays<R: Wait + Abort, L: Recorded>(
         one.ends(rt, journal, Act::GiveUp(get, Reason::Cancelled, false));
     }
     for number in lent.iter().copied().flatten() {
-        other.ends(rt, journal, Act::PutBack(number, number == 0));
+        let act = if number % 3 == 1 {
+            Act::Detach(number)
+        } else {
+            Act::PutBack(number, number == 0)
+        };
+        other.ends(rt, journal, act);
     }
 }
 
@@ -124,7 +130,10 @@ fn plays_rounds<R: Wait + Abort + AllocGlobal, L: Recorded>(rt: &R, config: Conf
     for _ in 0..ROUNDS {
         plays(rt, &journal, &mut one, &mut other);
     }
-    one.ends(rt, &journal, Act::Leave);
+    if one.makes(rt, &journal, Act::Join) == Some(Answer::Joined) {
+        one.ends(rt, &journal, Act::Leave);
+    }
+    one.ends(rt, &journal, Act::Close);
     let made = one.made.saturating_add(other.made);
     if seats.push(one.seat).is_err() || seats.push(other.seat).is_err() {
         return;

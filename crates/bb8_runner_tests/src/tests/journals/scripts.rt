@@ -8,6 +8,7 @@ use bb8_runner::threads::script::run_threads;
 use bb8_runner::verdict::Verdict;
 use std::alloc::{AllocError, Global};
 use std::fmt::Write;
+use std::process::Abort;
 use std::sync::Wait;
 use std::test::Fail;
 use std::thread::Threads;
@@ -56,6 +57,35 @@ const REAPS: [(&str, &str, &str); 6] = [
     ),
 ];
 
+/// Worked rows of what bb8 lacks: the settings, the events, and the state line at the end.
+const OWN: [(&str, &str, &str); 5] = [
+    (
+        "max_size=1 test_after=1",
+        "0 add\n0 begin\n1 try 0\n1 begin\n1 try 1\n2 timeout 0\n2 try 1\n",
+        "connections 0 idle 0 started 2 direct 0 waited 0 timed_out 1 cancelled 0 wait_us 0 created 0 broken 1 invalid 0 lifetime 0 idle_timeout 0",
+    ),
+    (
+        "max_size=2 check=off",
+        "0 add\n0 add\n0 begin\n0 try 0\n1 retire\n2 add\n3 return 0\n4 reap\n",
+        "connections 1 idle 1 started 1 direct 1 waited 0 timed_out 0 cancelled 0 wait_us 0 created 0 broken 0 invalid 0 lifetime 2 idle_timeout 0",
+    ),
+    (
+        "max_size=1 check=off lifetime=1",
+        "0 add\n0 begin\n0 try 0\n0 begin\n0 try 1\n0 detach 0\n0 detach 0\n0 return 0\n0 try 1\n",
+        "connections 0 idle 0 started 2 direct 1 waited 0 timed_out 0 cancelled 0 wait_us 0 created 0 broken 0 invalid 0 lifetime 0 idle_timeout 0",
+    ),
+    (
+        "max_size=2 check=off",
+        "0 begin\n0 try 0\n0 claim\n0 fail 0\n0 try 0\n0 ask\n0 ask\n0 claim\n0 open 1\n0 try 0\n",
+        "connections 1 idle 0 started 1 direct 0 waited 1 timed_out 0 cancelled 0 wait_us 0 created 1 broken 0 invalid 0 lifetime 0 idle_timeout 0",
+    ),
+    (
+        "max_size=1 check=off",
+        "0 join\n0 add\n0 begin\n0 try 0\n0 return 0\n0 close\n0 close\n0 begin\n",
+        "connections 0 idle 0 started 1 direct 1 waited 0 timed_out 0 cancelled 0 wait_us 0 created 0 broken 0 invalid 0 lifetime 0 idle_timeout 0",
+    ),
+];
+
 /// What so many threads write of a script, and how it ends.
 fn run<R: Threads + Wait + AllocGlobal + Sync>(
     rt: &R,
@@ -93,24 +123,43 @@ fn succeeds_first_script_in_one_thread(rt: HostRuntime) -> Result<(), Fail> {
     Ok(())
 }
 
-/// Each row of a reap in one thread: as many entries as events, `audit yes`, and its state line.
+/// Runs a row in one thread: as many entries as events, `audit yes`, and its state line.
+fn assert_row<R: Threads + Wait + Abort + AllocGlobal + Sync>(
+    rt: &R,
+    config: &str,
+    events: &str,
+    state: &str,
+) -> Result<(), Fail> {
+    let script = format!(in rt.alloc(); "config {config}\n{events}")?;
+    let (verdict, told) = run(rt, 1, script.as_bytes())?;
+    assert_equal(rt, verdict, Verdict::Ran);
+    let entries = events.bytes().filter(|byte| *byte == b'\n').count();
+    assert_equal(
+        rt,
+        told,
+        format!(in rt.alloc(); "entries {entries}\naudit yes\nstate {state}\n")?,
+    );
+    Ok(())
+}
+
 #[test]
 fn rows_of_reaps_in_one_thread(rt: HostRuntime) -> Result<(), Fail> {
     for (config, events, state) in REAPS {
-        let script = format!(in rt.alloc(); "config {config}\n{events}")?;
-        let (verdict, told) = run(&rt, 1, script.as_bytes())?;
-        assert_equal(&rt, verdict, Verdict::Ran);
-        let entries = events.bytes().filter(|byte| *byte == b'\n').count();
-        assert_equal(
-            &rt,
-            told,
-            format!(in rt.alloc(); "entries {entries}\naudit yes\nstate {state}\n")?,
-        );
+        assert_row(&rt, config, events, state)?;
     }
     Ok(())
 }
 
-/// In 4 and 64 threads: 20 entries, `audit yes`, at most 5 connections, and idle at most connections.
+#[test]
+fn rows_of_own_events_in_one_thread(rt: HostRuntime) -> Result<(), Fail> {
+    for (config, events, state) in OWN {
+        assert_row(&rt, config, events, state)?;
+    }
+    Ok(())
+}
+
+/// In 4 and 64 threads: 20 entries, `audit yes`, at most 5 connections, and idle at most
+/// connections.
 #[test]
 fn first_script_in_many_threads(rt: HostRuntime) -> Result<(), Fail> {
     for threads in [4, 64] {

@@ -40,14 +40,14 @@ const EACH_ANSWER: &[u8] = b"\
     withheld\n\
     reaped 10 idle 4 life 6 grant 2 at 5 withheld 1\n\
     reaped 0 idle 0 life 0\n\
-    state connections 21 idle 13 started 100 direct 31 waited 32 timed_out 5 cancelled 6 wait_us 5999 created 7 broken 8 invalid 9 lifetime 10 idle_timeout 11\n\
+    state connections 21 idle 13 started 100 direct 31 waited 32 timed_out 5 cancelled 6 wait_us 5999 created 7 broken 8 invalid 9 lifetime 10 idle_timeout 11 retired 12 detached 14\n\
     joined\n\
     left 4294967295\n\
     left 0\n\
     looked 18446744073709551615 open\n\
     looked 0 closed\n\
     unfit\n\
-    state connections 21 idle 13 started 100 direct 31 waited 32 timed_out 5 cancelled 6 wait_us 5999 created 7 broken 8 invalid 9 lifetime 10 idle_timeout 11\n";
+    state connections 21 idle 13 started 100 direct 31 waited 32 timed_out 5 cancelled 6 wait_us 5999 created 7 broken 8 invalid 9 lifetime 10 idle_timeout 11 retired 12 detached 14\n";
 
 fn grant(first: u64, count: u32, withheld: u32) -> Grant {
     Grant {
@@ -74,6 +74,8 @@ fn state() -> State {
             connections_closed_invalid: 9,
             connections_closed_max_lifetime: 10,
             connections_closed_idle_timeout: 11,
+            connections_closed_retired: 12,
+            connections_detached: 14,
         },
     }
 }

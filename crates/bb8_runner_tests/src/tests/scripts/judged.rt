@@ -13,7 +13,8 @@ const LINE_TWO: &[u8] = b"line 2: not an event\n";
 
 const LINE_THREE: &[u8] = b"line 3: not an event\n";
 
-/// No line, an empty line, carriage returns, bytes that are no text, and a last line with and without its line feed.
+/// No line, an empty line, carriage returns, bytes that are no text, and a last line with and
+/// without its line feed.
 const JUDGED: [(&[u8], Verdict, &[u8]); 10] = [
     (b"", Verdict::Bad, LINE_ONE),
     (b"\n", Verdict::Bad, LINE_ONE),

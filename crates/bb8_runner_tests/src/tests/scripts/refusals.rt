@@ -1,5 +1,6 @@
-//! The first script from bytes to bytes, and a replay of it, whatever requests for memory are refused, as `gate/refusals/run` makes them. That
-//! what is answered is allowed is proved; here it is the script's answer, or says of a refusal where one was.
+//! The first script from bytes to bytes, and a replay of it, whatever requests for memory are
+//! refused, as `gate/refusals/run` makes them. That what is answered is allowed is proved; here it
+//! is the script's answer, or says of a refusal where one was.
 
 use super::assert_equal;
 use crate::tests::FIRST_SCRIPT;
@@ -80,8 +81,8 @@ fn is_refused(alloc: Global) -> bool {
     Box::new(alloc, 0_u8).is_err()
 }
 
-/// Tells of a run that has ended whether it is known to have met no refusal: the first request after it is granted, and the second is
-/// refused. Then it came to its end.
+/// Tells of a run that has ended whether it is known to have met no refusal: the first request
+/// after it is granted, and the second is refused. Then it came to its end.
 fn tell<R: Abort + AllocGlobal + Eprint>(rt: &R, is_whole: bool) {
     if !is_refused(rt.alloc()) && is_refused(rt.alloc()) {
         assert!(rt; is_whole);
@@ -125,8 +126,8 @@ fn is_refusal(answer: Answer) -> bool {
     }
 }
 
-/// Replays the first script: whether an answer tells of a refusal, and how many connections came in. None where there is no memory for the
-/// script or the replay.
+/// Replays the first script: whether an answer tells of a refusal, and how many connections came
+/// in. None where there is no memory for the script or the replay.
 fn replayed<R: Abort + AllocGlobal>(rt: &R) -> Option<(bool, usize)> {
     let alloc = rt.alloc();
     let lines: Vec<&[u8]> = FIRST_SCRIPT

@@ -7,7 +7,7 @@ use bb8_runner::grammar::event_of;
 use std::test::Fail;
 
 /// Each form of an event once, with the greatest and the least number and moment among them.
-const SPELLED: [(&[u8], u64, Act); 26] = [
+const SPELLED: [(&[u8], u64, Act); 31] = [
     (b"0 begin", 0, Act::Begin),
     (b"1 try 0", 1, Act::Try(0)),
     (b"1 ok 2", 1, Act::CheckedOk(2)),
@@ -31,8 +31,19 @@ const SPELLED: [(&[u8], u64, Act); 26] = [
     ),
     (b"2 return 3", 2, Act::PutBack(3, false)),
     (b"2 return 3 broken", 2, Act::PutBack(3, true)),
+    (
+        b"6 detach 18446744073709551615",
+        6,
+        Act::Detach(18_446_744_073_709_551_615),
+    ),
+    (
+        b"18446744073709551615 detach 0",
+        18_446_744_073_709_551_615,
+        Act::Detach(0),
+    ),
     (b"0 fill", 0, Act::Fill(false)),
     (b"0 fill claimed", 0, Act::Fill(true)),
+    (b"0 ask", 0, Act::Ask),
     (b"10 claim", 10, Act::Claim),
     (b"0 open 10", 0, Act::Opened(10)),
     (
@@ -43,9 +54,11 @@ const SPELLED: [(&[u8], u64, Act); 26] = [
     (b"0 add", 0, Act::Add(false)),
     (b"0 add broken", 0, Act::Add(true)),
     (b"5 reap", 5, Act::Reap),
+    (b"5 retire", 5, Act::Retire),
     (b"0 state", 0, Act::State),
     (b"3 join", 3, Act::Join),
     (b"4 leave", 4, Act::Leave),
+    (b"4 close", 4, Act::Close),
     (b"0 look", 0, Act::Look),
     (
         b"18446744073709551615 look",

@@ -50,8 +50,9 @@ fn pieces_of(alloc: Global, input: &[u8]) -> Result<Vec<&[u8]>, AllocError> {
     input.split(|b| *b == b'\n').collect_in(alloc)
 }
 
-/// The lines of an input. A line feed ends a line, and the last line may lack it. No input is one empty line. The cut is made on bytes, so
-/// that bytes that are no text make only their own line bad. Err where memory was refused.
+/// The lines of an input. A line feed ends a line, and the last line may lack it. No input is one
+/// empty line. The cut is made on bytes, so that bytes that are no text make only their own line
+/// bad. Err where memory was refused.
 pub fn lines_of(alloc: Global, input: &[u8]) -> Result<Vec<&[u8]>, AllocError> {
     pieces_of(alloc, without_line_feed(input))
 }
@@ -69,8 +70,8 @@ fn events_of(alloc: Global, lines: &[&[u8]]) -> Result<Vec<Event>, NoScript> {
     Ok(events)
 }
 
-/// The script that the lines are: a configuration, which a pool can hold to, and an event a line. Err where memory was refused, or with the
-/// first bad line.
+/// The script that the lines are: a configuration, which a pool can hold to, and an event a line.
+/// Err where memory was refused, or with the first bad line.
 pub fn script_of(alloc: Global, lines: &[&[u8]]) -> Result<Script, NoScript> {
     let [first, others @ ..] = lines else {
         return Err(NoScript::BadLine(1));

@@ -11,6 +11,8 @@ pub struct Overrides {
     pub min_idle: Option<Option<u32>>,
     /// Whether a connection is checked before it is handed out.
     pub check: Option<bool>,
+    /// How many nanoseconds a connection is idle before it is checked.
+    pub test_after: Option<u64>,
     /// After how many nanoseconds since its birth a connection is closed, if ever.
     pub lifetime: Option<Option<u64>>,
     /// After how many nanoseconds since its last entry an idle connection is closed, if ever.

@@ -25,10 +25,12 @@ fn answer(alloc: Global, input: &[u8]) -> Result<(Verdict, String), Fault> {
     }
 }
 
-/// Reads a script to its end, and writes the answers of a run of it and the state that it ended in, or which line is the first bad one.
+/// Reads a script to its end, and writes the answers of a run of it and the state that it ended in,
+/// or which line is the first bad one.
 ///
-/// `Read` comes where a read failed, `Write` where a write failed, and `Memory` where a list could not grow. Nothing is written before the
-/// whole input was read and judged, so only after `Write` may a beginning of the output have gone out. Upstream has no scripts.
+/// `Read` comes where a read failed, `Write` where a write failed, and `Memory` where a list could
+/// not grow. Nothing is written before the whole input was read and judged, so only after `Write`
+/// may a beginning of the output have gone out. Upstream has no scripts.
 pub fn run_script<R: Source, W: Sink>(
     alloc: Global,
     reader: &mut R,

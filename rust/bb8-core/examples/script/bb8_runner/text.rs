@@ -104,6 +104,24 @@ impl fmt::Display for ClosedPart {
     }
 }
 
+/// How many connections were retired, and how many left the pool.
+#[derive(Clone, Copy)]
+struct GonePart(Statistics);
+
+impl fmt::Display for GonePart {
+    fn fmt(&self, f: &mut fmt::Formatter) -> fmt::Result {
+        let retired = self.0.connections_closed_retired;
+        if retired != 0 {
+            write!(f, " retired {retired}")?;
+        }
+        let detached = self.0.connections_detached;
+        if detached != 0 {
+            write!(f, " detached {detached}")?;
+        }
+        Ok(())
+    }
+}
+
 /// The state line.
 #[derive(Clone, Copy)]
 struct StateText(State);
@@ -113,11 +131,12 @@ impl fmt::Display for StateText {
         let statistics = self.0.statistics;
         write!(
             f,
-            "{}{}{}{}",
+            "{}{}{}{}{}",
             SizesPart(self.0),
             GetsPart(statistics),
             OpenedPart(statistics),
-            ClosedPart(statistics)
+            ClosedPart(statistics),
+            GonePart(statistics)
         )
     }
 }
@@ -178,7 +197,8 @@ impl fmt::Display for AnswerText {
     }
 }
 
-/// What a script that ran prints: a line for each answer, and the state line. Err where memory was refused.
+/// What a script that ran prints: a line for each answer, and the state line. Err where memory was
+/// refused.
 pub fn output(alloc: Global, answers: &[Answer], last: State) -> Result<String, AllocError> {
     let mut text = String::new(alloc);
     for answer in answers {

@@ -41,7 +41,8 @@ pub(super) fn want<C>(config: &Config, handles: u64, records: &Records<C>) -> u6
     }
 }
 
-/// How many approvals are due to a get that waits: one is asked for where gets outnumber open approvals.
+/// How many approvals are due to a get that waits: one is asked for where gets outnumber open
+/// approvals.
 pub(super) fn due_waiting<C>(
     config: &Config,
     handles: u64,
@@ -52,12 +53,37 @@ pub(super) fn due_waiting<C>(
     due(config, handles, records.used(), asked)
 }
 
+/// How many approvals are due to so many waiters that were not notified: as many are asked for as
+/// have no open approval.
+pub(super) fn due_asked<C>(
+    config: &Config,
+    handles: u64,
+    records: &Records<C>,
+    waiting: u64,
+) -> u64 {
+    let asked = waiting.saturating_sub(records.approved());
+    due(config, handles, records.used(), asked)
+}
+
 /// The greatest age, in nanoseconds, at which this limit is not reached.
 pub(super) fn greatest_age(limit: Option<Duration>) -> u64 {
     match limit {
         None => u64::MAX,
         Some(limit) => (limit.as_nanos() - 1).min(u64::MAX as u128) as u64,
     }
+}
+
+/// What a reap holds to that ends all idle connections: each has lived too long.
+pub(super) fn retiring(config: &Config) -> Config {
+    let mut all = *config;
+    all.max_lifetime = Some(Duration::from_nanos(0));
+    all
+}
+
+/// Whether one of both holds.
+#[inline]
+pub(super) fn either(a: bool, b: bool) -> bool {
+    a || b
 }
 
 /// Whether a connection of this birth has lived too long.
@@ -74,9 +100,38 @@ pub(super) fn notify_next_if(gets: &mut Gets, test: bool, lendings: &mut Lending
     if test { gets.notify(lendings) } else { None }
 }
 
-/// Who holds a connection that a try takes out: the get, where it is checked before the get is served with it.
-pub(super) fn holder(config: &Config, get: GetKey) -> Holder {
-    if config.test_on_check_out {
+/// Whether the connection that is first of the idle ones is checked before a get is served with it.
+/// One entry is lent where its time in idleness decides.
+#[inline(always)]
+pub(super) fn checks_first<C>(
+    config: &Config,
+    records: &Records<C>,
+    now: u64,
+    lendings: &mut Lendings,
+) -> bool {
+    if !config.test_on_check_out {
+        return false;
+    }
+    if config.test_after.is_zero() {
+        return true;
+    }
+    match records.first_entered(config.queue_strategy, lendings) {
+        // None is idle, so nothing goes out.
+        None => true,
+        Some(entered) => config.test_after.as_nanos() <= now.saturating_sub(entered) as u128,
+    }
+}
+
+/// Whether a connection whose check was cut off counts as broken.
+#[inline]
+pub(super) fn is_doubtful(config: &Config, broken: bool) -> bool {
+    broken || !config.test_after.is_zero()
+}
+
+/// Who holds a connection that a try takes out: the get, where it is checked before the get is
+/// served with it.
+pub(super) fn holder(checked: bool, get: GetKey) -> Holder {
+    if checked {
         Holder::Get(get.number)
     } else {
         Holder::Guard

@@ -31,8 +31,8 @@ impl<C, A> PoolInternals<C, A> {
         Ok(JoinAnswer::Joined)
     }
 
-    /// Takes a handle away. With the last one all idle connections and all unclaimed approvals end; the connections are dropped here. Where no
-    /// handle is alive nothing changes.
+    /// Takes a handle away. With the last one all idle connections and all unclaimed approvals end;
+    /// the connections are dropped here. Where no handle is alive nothing changes.
     pub fn leave(&mut self, at: Moment) -> Result<LeaveAnswer, Unfit> {
         self.limits();
         if !self.fits_leave() {
@@ -42,16 +42,40 @@ impl<C, A> PoolInternals<C, A> {
         Ok(self.leave_into(at, &mut dropped))
     }
 
-    /// Leaves as `leave` does, and puts the connections that it closes into a list, in line. What the list has no room for is dropped.
+    /// Leaves as `leave` does, and puts the connections that it closes into a list, in line. What
+    /// the list has no room for is dropped.
     pub fn leave_into(&mut self, at: Moment, closed: &mut ClosedList<C>) -> LeaveAnswer {
         self.latest = self.latest.max(at.0);
         self.lendings.start();
         if self.handles == 1 {
             self.handles = 0;
+            self.closed_below = u64::MAX;
             return LeaveAnswer::Left(self.records.leave(closed));
         }
         self.handles -= 1;
         LeaveAnswer::Left(0)
+    }
+
+    /// Closes the pool: takes all handles away at once. All idle connections and all unclaimed
+    /// approvals end, as with the last handle that leaves; the connections are dropped here. Where
+    /// no handle is alive nothing changes.
+    pub fn close(&mut self, at: Moment) -> Result<LeaveAnswer, Unfit> {
+        self.limits();
+        if !self.fits_close() {
+            return Err(Unfit);
+        }
+        let mut dropped = self.records.no_list();
+        Ok(self.close_into(at, &mut dropped))
+    }
+
+    /// Closes as `close` does, and puts the connections that it closes into a list, in line. What
+    /// the list has no room for is dropped.
+    pub fn close_into(&mut self, at: Moment, closed: &mut ClosedList<C>) -> LeaveAnswer {
+        self.latest = self.latest.max(at.0);
+        self.lendings.start();
+        self.handles = 0;
+        self.closed_below = u64::MAX;
+        LeaveAnswer::Left(self.records.leave(closed))
     }
 
     /// The effective moment, and whether a handle is alive.

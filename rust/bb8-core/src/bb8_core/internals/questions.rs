@@ -1,23 +1,26 @@
-//! The questions that a state answers: whether an event fits, and where a number stands. Those that look at an entry count in a count of their
-//! own, which is forgotten.
+//! The questions that a state answers: whether an event fits, and where a number stands. Those that
+//! look at an entry count in a count of their own, which is forgotten.
 
 use super::{GetKey, Key, PoolInternals};
 use crate::bb8_tables::gets::{held, is_trying};
 use crate::bb8_types::standing::Getting;
 
 impl<C, A> PoolInternals<C, A> {
-    /// What holds of every state, whoever has it: its configuration is lawful, connections and open approvals are within the size, and the
-    /// legal ledger that it represents keeps all limits. It does nothing.
+    /// What holds of every state, whoever has it: its configuration is lawful, connections and open
+    /// approvals are within the size, and the legal ledger that it represents keeps all limits. It
+    /// does nothing.
     pub fn limits(&self) {
         let _ = &self.config;
     }
 
-    /// How many entries of its tables the latest step lent: each time what stands at a place was read or changed.
+    /// How many entries of its tables the latest step lent: each time what stands at a place was
+    /// read or changed.
     pub fn examined(&self) -> u64 {
         self.lendings.lent()
     }
 
-    /// How often the latest step searched a table, as a key that it was handed told a place where its number does not stand.
+    /// How often the latest step searched a table, as a key that it was handed told a place where
+    /// its number does not stand.
     pub fn searched(&self) -> u64 {
         self.lendings.searched()
     }
@@ -27,8 +30,9 @@ impl<C, A> PoolInternals<C, A> {
         self.records.next_number()
     }
 
-    /// How many events may still come that end a get, a handle or the lending of a connection: one of each get alive, of each handle alive,
-    /// and of each connection that is out. It stays at the greatest u64.
+    /// How many events may still come that end a get, a handle or the lending of a connection: one
+    /// of each get alive, of each handle alive, and of each connection that is out. It stays at the
+    /// greatest u64.
     pub fn endings(&self) -> u64 {
         let out = self.records.connections() - self.records.idle_connections();
         (self.gets.alive())
@@ -49,6 +53,11 @@ impl<C, A> PoolInternals<C, A> {
     /// Whether a handle may be added: while one is alive.
     pub fn fits_join(&self) -> bool {
         self.fits_begin()
+    }
+
+    /// Whether the pool may be closed: while a handle is alive.
+    pub fn fits_close(&self) -> bool {
+        self.fits_join()
     }
 
     /// Whether a handle may be dropped: while one is alive.
@@ -108,7 +117,8 @@ impl<C> PoolInternals<C> {
         self.records.idle_connections()
     }
 
-    /// How many connections the next leave closes: all that are idle, where one handle is alive and no other.
+    /// How many connections the next leave closes: all that are idle, where one handle is alive and
+    /// no other.
     pub fn closed_by_leave(&self) -> u32 {
         if self.handles == 1 { self.idle() } else { 0 }
     }

@@ -19,8 +19,12 @@ pub enum Act {
     GiveUp(u64, Reason, bool),
     /// The guard of the connection gives it back; it may be broken.
     PutBack(u64, bool),
+    /// The guard of the connection leaves with it for good.
+    Detach(u64),
     /// Approvals are asked for, up to `min_idle`; they may be claimed at once.
     Fill(bool),
+    /// What waiters lack is granted.
+    Ask,
     /// The unclaimed approval of the least number is claimed.
     Claim,
     /// The claimed approval brought a connection.
@@ -31,12 +35,16 @@ pub enum Act {
     Add(bool),
     /// Idle connections are closed that have been idle too long or live too long.
     Reap,
+    /// All connections and approvals are retired that have numbers now.
+    Retire,
     /// The pool is asked what it tells of itself.
     State,
     /// One handle more is made.
     Join,
     /// A handle is dropped.
     Leave,
+    /// The pool is closed.
+    Close,
     /// The pool is asked for its moment, and whether a handle is alive.
     Look,
 }
@@ -95,7 +103,8 @@ pub enum Answer {
     Reaped {
         /// How many.
         closed: u32,
-        /// How many of them had been idle for the `idle_timeout`, and had not lived for the `max_lifetime`.
+        /// How many of them had been idle for the `idle_timeout`, and had not lived for the
+        /// `max_lifetime`.
         by_idle: u32,
         /// How many of them had lived for the `max_lifetime`.
         by_life: u32,

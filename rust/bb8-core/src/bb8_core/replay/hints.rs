@@ -3,8 +3,8 @@
 use crate::kit::Vec;
 use crate::kit::Global;
 
-/// A place for each number from a first one on. A place is a hint, so one that is not known may be any: hints are given up where memory
-/// is refused for them.
+/// A place for each number from a first one on. A place is a hint, so one that is not known may be
+/// any: hints are given up where memory is refused for them.
 pub(crate) struct Hints {
     first: u64,
     places: Vec<usize>,

@@ -1,4 +1,5 @@
-//! The reap of idle connections, by two walks: along the line of the idle, and along the order of births.
+//! The reap of idle connections, by two walks: along the line of the idle, and along the order of
+//! births.
 
 use super::{Records, close_idle_at};
 use crate::bb8_tables::closed::ClosedList;
@@ -79,7 +80,8 @@ fn pass_birth<C>(
 }
 
 impl<C> Records<C> {
-    /// Ends the idle connection that entered first, where it is idle too long, and tells whether. One entry is lent, where one is idle.
+    /// Ends the idle connection that entered first, where it is idle too long, and tells whether.
+    /// One entry is lent, where one is idle.
     fn reap_first(
         &mut self,
         config: &Config,
@@ -99,8 +101,9 @@ impl<C> Records<C> {
         true
     }
 
-    /// Ends the connections that are idle too long, from the one that entered first to the first that is not, but spares `min_idle` idle
-    /// ones. An entry is lent for each of them, and at most one more; none where no limit is set.
+    /// Ends the connections that are idle too long, from the one that entered first to the first
+    /// that is not, but spares `min_idle` idle ones. An entry is lent for each of them, and at most
+    /// one more; none where no limit is set.
     fn reap_idle(
         &mut self,
         config: &Config,
@@ -124,8 +127,9 @@ impl<C> Records<C> {
         many
     }
 
-    /// Ends the idle connections that live too long, from the one that was born first to the first that does not, and passes those that are
-    /// out. An entry is lent for each of both, and at most one more; none where no limit is set.
+    /// Ends the idle connections that live too long, from the one that was born first to the first
+    /// that does not, and passes those that are out. An entry is lent for each of both, and at most
+    /// one more; none where no limit is set.
     fn reap_aged(
         &mut self,
         config: &Config,
@@ -154,8 +158,9 @@ impl<C> Records<C> {
         many
     }
 
-    /// Ends each idle connection that lives too long, and then those that are idle too long but for `min_idle`, the one that entered first
-    /// before the others, and offers them to a list. Entries are lent for those that end, for those that are out, and for two more at most.
+    /// Ends each idle connection that lives too long, and then those that are idle too long but for
+    /// `min_idle`, the one that entered first before the others, and offers them to a list. Entries
+    /// are lent for those that end, for those that are out, and for two more at most.
     pub fn reap(
         &mut self,
         config: &Config,

@@ -3,25 +3,27 @@
 use super::Moment;
 use std::task::Poll;
 
-/// Prepares each connection that the pool opens, also a dedicated one, right after it was opened and before anyone gets it. A connection
-/// that is added by hand is not prepared.
+/// Prepares each connection that the pool opens, also a dedicated one, right after it was opened
+/// and before anyone gets it. A connection that is added by hand is not prepared.
 ///
-/// As upstream, but that `on_acquire` gives a state in place of a future and a call of its own polls that state, that neither call
-/// has a body where none is written (`NopCustomizer` has both), and that no `Debug` is asked for, as a customizer is a type parameter
-/// of the pool.
+/// As upstream, but that `on_acquire` gives a state in place of a future and a call of its own
+/// polls that state, that neither call has a body where none is written (`NopCustomizer` has both),
+/// and that no `Debug` is asked for, as a customizer is a type parameter of the pool.
 ///
-/// Each call has a ghost member, a relation between what the call was given and what it answered. The implementer chooses it, and
-/// one that is left out allows everything.
+/// Each call has a ghost member, a relation between what the call was given and what it answered.
+/// The implementer chooses it, and one that is left out allows everything.
 pub trait CustomizeConnection<C, E>: Send + Sync + 'static {
     /// A connection's preparation that is under way.
     type Acquiring: Send + 'static;
 
-    /// Begins to prepare a connection. It waits for nothing: what takes time is for the polls. As upstream, but for the state.
+    /// Begins to prepare a connection. It waits for nothing: what takes time is for the polls. As
+    /// upstream, but for the state.
     fn on_acquire(&self, connection: &mut C) -> Self::Acquiring;
 
-    /// Goes on with a connection's preparation, at the moment `moment`: Ok where it is done, an error where it failed, and pending
-    /// while it is under way. It is not polled again once it was ready. A connection whose preparation failed is dropped, and that
-    /// counts as a failed opening.
+    /// Goes on with a connection's preparation, at the moment `moment`: Ok where it is done, an
+    /// error where it failed, and pending while it is under way. It is not polled again once it was
+    /// ready. A connection whose preparation failed is dropped, and that counts as a failed
+    /// opening.
     fn poll_acquire(
         &self,
         connection: &mut C,
@@ -30,8 +32,8 @@ pub trait CustomizeConnection<C, E>: Send + Sync + 'static {
     ) -> Poll<Result<(), E>>;
 }
 
-/// The customizer that leaves each connection as it is and is ready at once: what a pool has where none is set. Upstream has an
-/// optional customizer instead.
+/// The customizer that leaves each connection as it is and is ready at once: what a pool has where
+/// none is set. Upstream has an optional customizer instead.
 #[derive(Clone, Copy, Debug)]
 pub struct NopCustomizer;
 

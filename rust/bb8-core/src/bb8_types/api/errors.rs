@@ -4,7 +4,8 @@ use crate::kit::{AllocError, AllocFailed};
 use std::error::Error;
 use std::fmt;
 
-/// Memory was refused. It prints as `RunError::Memory` does. Upstream aborts where no memory is left.
+/// Memory was refused. It prints as `RunError::Memory` does. Upstream aborts where no memory is
+/// left.
 #[derive(Clone, Copy, Debug, PartialEq, Eq)]
 pub struct Memory;
 
@@ -30,7 +31,8 @@ impl From<AllocError> for Memory {
 
 /// Why a get or the building of a pool failed.
 ///
-/// Two are equal where they are of the same case and, of two `User`, where the manager's errors are equal.
+/// Two are equal where they are of the same case and, of two `User`, where the manager's errors are
+/// equal.
 #[derive(Debug, Clone)]
 pub enum RunError<E> {
     /// The manager's or the customizer's own error, which prints as it does. As upstream.
@@ -39,7 +41,8 @@ pub enum RunError<E> {
     TimedOut,
     /// Memory was refused. Upstream aborts where no memory is left.
     Memory,
-    /// The pool has no number left for another get: each of the 18,446,744,073,709,551,615 was given.
+    /// The pool has no number left for another get: each of the 18,446,744,073,709,551,615 was
+    /// given.
     Exhausted,
 }
 
@@ -57,7 +60,8 @@ impl<E: fmt::Display> fmt::Display for RunError<E> {
 impl<E: Error> Error for RunError<E> {}
 
 impl<E> From<E> for RunError<E> {
-    /// The manager's error as `User`, so that `?` passes it on. As upstream, which asks for an `Error`.
+    /// The manager's error as `User`, so that `?` passes it on. As upstream, which asks for an
+    /// `Error`.
     fn from(error: E) -> Self {
         RunError::User(error)
     }
@@ -80,15 +84,18 @@ impl<E: Eq> Eq for RunError<E> {
 
 /// Why a pool refused a connection that was to be added. Each case gives the connection back.
 ///
-/// Two are equal where they are of the same case and the connections are equal. It prints whatever the connection's type is, also
-/// where that has no `Display`: our own, as upstream asks for a connection that is an error.
+/// Two are equal where they are of the same case and the connections are equal. It prints whatever
+/// the connection's type is, also where that has no `Display`: our own, as upstream asks for a
+/// connection that is an error.
 #[derive(Debug, Clone)]
 pub enum AddError<C> {
-    /// The connection was broken, as the manager's `has_broken` says. It is looked at first. As upstream.
+    /// The connection was broken, as the manager's `has_broken` says. It is looked at first. As
+    /// upstream.
     Broken(C),
     /// Connections and open approvals together were `max_size` already. As upstream.
     NoCapacity(C),
-    /// There was no memory for the connection's place, or no number left for it. Upstream aborts where no memory is left.
+    /// There was no memory for the connection's place, or no number left for it. Upstream aborts
+    /// where no memory is left.
     Withheld(C),
 }
 

@@ -6,16 +6,18 @@ use std::fmt::Debug;
 
 /// Opens and checks the connections of a pool.
 ///
-/// As upstream, but that `connect` and `is_valid` give a state in place of a future, and a call of its own polls that state: the pool
-/// polls it until it is ready and not again, and may drop it before. No call is made under the pool's lock; connections may be dropped
-/// under it.
+/// As upstream, but that `connect` and `is_valid` give a state in place of a future, and a call of
+/// its own polls that state: the pool polls it until it is ready and not again, and may drop it
+/// before. No call is made under the pool's lock; connections may be dropped under it.
 ///
-/// A poll runs in the thread that polls: a driver's, where a connection is opened, and that of a get's caller, where one is checked. One that
-/// blocks holds up what else that thread does, which is the driver's other openings and its reaper, or the get, past its deadline. So a
-/// poll answers pending where it would wait, or more drivers of the pool run, each in a thread of its own.
+/// A poll runs in the thread that polls: a driver's, where a connection is opened, and that of a
+/// get's caller, where one is checked. One that blocks holds up what else that thread does, which
+/// is the driver's other openings and its reaper, or the get, past its deadline. So a poll answers
+/// pending where it would wait, or more drivers of the pool run, each in a thread of its own.
 ///
-/// Each call has a ghost member, a relation between what the call was given and what it answered. The implementer chooses it, and
-/// one that is left out allows everything. What is proved of a pool holds for every choice.
+/// Each call has a ghost member, a relation between what the call was given and what it answered.
+/// The implementer chooses it, and one that is left out allows everything. What is proved of a pool
+/// holds for every choice.
 pub trait ManageConnection: Sized + Send + Sync + 'static {
     /// What the pool keeps and hands out. As upstream.
     type Connection: Send + 'static;
@@ -29,11 +31,12 @@ pub trait ManageConnection: Sized + Send + Sync + 'static {
     /// A check that is being made.
     type Checking: Send + 'static;
 
-    /// Begins to open a connection. It waits for nothing: what takes time is for the polls. As upstream, but for the state.
+    /// Begins to open a connection. It waits for nothing: what takes time is for the polls. As
+    /// upstream, but for the state.
     fn connect(&self) -> Self::Connecting;
 
-    /// Goes on with the opening of a connection, at the moment `moment`: the connection or the error once it is open or has failed,
-    /// else pending.
+    /// Goes on with the opening of a connection, at the moment `moment`: the connection or the
+    /// error once it is open or has failed, else pending.
     fn poll_connect(
         &self,
         connecting: &mut Self::Connecting,
@@ -43,8 +46,8 @@ pub trait ManageConnection: Sized + Send + Sync + 'static {
     /// Begins to check whether a connection still serves. As upstream, but for the state.
     fn is_valid(&self, connection: &mut Self::Connection) -> Self::Checking;
 
-    /// Goes on with the check of a connection, at the moment `moment`: Ok where it serves, an error where it does not and is to be
-    /// closed, and pending while that is not known.
+    /// Goes on with the check of a connection, at the moment `moment`: Ok where it serves, an error
+    /// where it does not and is to be closed, and pending while that is not known.
     fn poll_valid(
         &self,
         connection: &mut Self::Connection,
@@ -52,8 +55,8 @@ pub trait ManageConnection: Sized + Send + Sync + 'static {
         moment: Moment,
     ) -> Poll<Result<(), Self::Error>>;
 
-    /// Whether a connection is known to be of no more use, without waiting. It is asked of a connection that comes back to the pool, is
-    /// added to it or failed its check; one that comes back broken is closed, and one that is to be added is refused. As
-    /// upstream.
+    /// Whether a connection is known to be of no more use, without waiting. It is asked of a
+    /// connection that comes back to the pool, is added to it or failed its check; one that comes
+    /// back broken is closed, and one that is to be added is refused. As upstream.
     fn has_broken(&self, connection: &mut Self::Connection) -> bool;
 }

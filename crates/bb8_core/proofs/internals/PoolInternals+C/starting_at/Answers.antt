@@ -10,7 +10,7 @@ invariant_of-result g c = (
     opening c.args.config c.args.first_number c.args.first_get,
     c.requires,
     rw (c.new-records.ensures, c.new.ensures)
-        (same_shown _ _ refl refl refl refl (of_records.shown-none c.args.first_number) (of_gets.shown-none c.args.first_get) refl),
+        (same_shown _ _ refl refl refl refl refl (of_records.shown-none c.args.first_number) (of_gets.shown-none c.args.first_get) refl),
   ),
-  c.greatest_age.ensures,
+  record { age = c.greatest_age.ensures; closed = λ k few. refl },
 )

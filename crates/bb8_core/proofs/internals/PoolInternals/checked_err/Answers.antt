@@ -1,4 +1,4 @@
-use Rattle.bb8_core.proofs.Words.{refl, arith, view_of}
+use Rattle.bb8_core.proofs.Words.{refl, ap, ◌∙◌, ◌||◌, Bool, ltb, arith, view_of}
 use Rattle.bb8_ledger.specs.Acts as acts
 use Rattle.bb8_core.proofs.Fitting.{shown_fits, fits_held, unfit_held, held_out, closed_few, invalid_few}
 use Rattle.bb8_core.proofs.Runs.{unfit_gets}
@@ -25,7 +25,7 @@ overflow_add-self g c =
 pub close-requires : goal.close-requires
 close-requires g c =
     let out = held_out (view_of c.self.inside) c.args.get.number c.in-Some.held c.self.invariant.0 c.in-Some.ensures.some.0 in
-    closed_few c.in-Some.held (view_of c.self.inside) c.self.invariant.0 out c.close_and_grant-grant.ensures.numbers
+    omega (arith, closed_few c.in-Some.held (view_of c.self.inside) c.self.invariant.0 out c.close_and_grant-grant.ensures.numbers)
 
 pub returns-clause-step : goal.returns-clause-step
 returns-clause-step g c =
@@ -33,7 +33,7 @@ returns-clause-step g c =
       at_view c.self.view_is
           (meets_invalid c.self.inside.counters (fits_held (view_of c.self.inside) c.args.get.number c.in-Some.held held.0)
           (record { now_is = c.max-now.ensures; get_is = refl; held = held.0 })
-          (record { now_is = c.max-now.ensures; birth_is = c.birth-birth.ensures.value; aged_is = c.is_expired-expired.ensures })
+          (record { now_is = c.max-now.ensures; birth_is = c.birth-birth.ensures.value; aged_is = c.either-expired.ensures ∙ ap (λ (b : Bool). b || ltb c.in-Some.held c.self.inside.retired) c.is_expired.ensures })
           c.close_and_grant-grant.ensures.granted c.close_and_grant-grant.ensures.state
           (notices held.1 c.notify-notified.ensures.value c.notify-notified.ensures.state) refl c.close.ensures),
       tt,

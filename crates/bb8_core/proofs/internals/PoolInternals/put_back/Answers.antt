@@ -1,8 +1,8 @@
-use Rattle.bb8_core.proofs.Words.{refl, ◌∙◌, arith, is_guarded, view_of}
+use Rattle.bb8_core.proofs.Words.{refl, ap, ◌∙◌, ◌-◌, ◌||◌, Bool, arith, get, birth_in, is_guarded, view_of, eqb, ltb}
 use Rattle.bb8_ledger.specs.Acts as acts
-use Rattle.bb8_core.proofs.Fitting.{shown_fits, fits_at, unfit_at, guarded_record, closed_few, none_after}
+use Rattle.bb8_core.proofs.Fitting.{number_few, shown_fits, fits_at, unfit_at, guarded_record, closed_few, none_after}
 use Rattle.bb8_core.proofs.Runs.{unfit_records}
-use Rattle.bb8_core.proofs.Steps.{meets_returned_kept, meets_returned_closed, led, at_view}
+use Rattle.bb8_core.proofs.Steps.{meets_returned_kept, meets_returned_closed, regroup, led, at_view}
 use Rattle.bb8_core.proofs.Parts.{counted}
 use Rattle.bb8_core.proofs.internals.PoolInternals.put_back.Goals as goal
 
@@ -16,12 +16,13 @@ returns-in-Err-clause-step g c = unfit_records c.args.at.0 (acts.PutBack c.args.
 pub returns-in-Ok-Ok-clause-step : goal.returns-in-Ok-Ok-clause-step
 returns-in-Ok-Ok-clause-step g c =
     let a = view_of c.self.inside in
-    let ok = rw c.in-Ok-Ok.field-0-is at c.in-Ok-Ok.ensures.ok in (
+    let ok = rw c.in-Ok-Ok.field-0-is at c.in-Ok-Ok.ensures.ok in
+    let few = number_few c.args.k.number a c.self.invariant.0 (guarded_record a c.args.k.number c.in-Ok-Ok.ensures.held) c.in-Ok-Ok.ensures.numbers in (
       at_view c.self.view_is
           (meets_returned_kept (fits_at a is_guarded c.args.k.number c.in-Ok-Ok.ensures.held)
           (record { who = c.notify-notified.ensures.value; after = c.notify-notified.ensures.state })
-          (record { now_is = c.max-now.ensures; birth_is = refl; aged_is = c.self.invariant.1 _ (omega arith) })
-          ok.0 ok.1),
+          (record { now_is = c.max-now.ensures; birth_is = refl; aged_is = ap (λ (b : Bool). b || (ltb c.args.k.number c.self.inside.retired)) (c.self.invariant.1.age (c.max-now.result - birth_in (get c.self.inside.records.places c.args.k.number)) (omega arith)) })
+          (regroup c.args.broken (ltb c.self.inside.greatest_age (c.max-now.result - birth_in (get c.self.inside.records.places c.args.k.number))) (eqb c.self.inside.handles 0) (ltb c.args.k.number c.self.inside.retired) (c.self.invariant.1.closed c.args.k.number few) refl ok.0) ok.1),
       tt,
     )
 
@@ -39,19 +40,23 @@ pub close_and_grant-grant-requires-clause-size : goal.close_and_grant-grant-requ
 close_and_grant-grant-requires-clause-size g c = let err = rw c.in-Ok-Err.field-0-is at c.in-Ok-Err.ensures.err in rw err.3 (shown_fits (view_of c.self.inside) c.self.invariant.0).size
 
 pub close-requires : goal.close-requires
-close-requires g c = let err = rw c.in-Ok-Err.field-0-is at c.in-Ok-Err.ensures.err in closed_few c.args.k.number (view_of c.self.inside) c.self.invariant.0
-    (guarded_record (view_of c.self.inside) c.args.k.number c.in-Ok-Err.ensures.held) (rw err.3 at c.close_and_grant-grant.ensures.numbers)
+close-requires g c = let err = rw c.in-Ok-Err.field-0-is at c.in-Ok-Err.ensures.err in omega (
+  arith,
+  closed_few c.args.k.number (view_of c.self.inside) c.self.invariant.0
+      (guarded_record (view_of c.self.inside) c.args.k.number c.in-Ok-Err.ensures.held) (rw err.3 at c.close_and_grant-grant.ensures.numbers),
+)
 
 pub returns-in-Ok-Err-clause-step : goal.returns-in-Ok-Err-clause-step
 returns-in-Ok-Err-clause-step g c =
     let a = view_of c.self.inside in
     let r = c.in-Ok-Err.ensures in
-    let err = rw c.in-Ok-Err.field-0-is at r.err in (
+    let err = rw c.in-Ok-Err.field-0-is at r.err in
+    let few = number_few c.args.k.number a c.self.invariant.0 (guarded_record a c.args.k.number r.held) (rw err.3 at c.close_and_grant-grant.ensures.numbers) in (
       at_view c.self.view_is
           (meets_returned_closed c.self.inside.counters (fits_at a is_guarded c.args.k.number r.held)
           (record { who = c.notify.ensures.value; after = c.notify.ensures.state })
-          (record { now_is = c.max-now.ensures; birth_is = refl; aged_is = err.1 ∙ c.self.invariant.1 _ (omega arith) })
-          err.2 (rw err.3 at c.close_and_grant-grant.ensures.granted) (rw err.3 at c.close_and_grant-grant.ensures.state) refl c.close.ensures),
+          (record { now_is = c.max-now.ensures; birth_is = refl; aged_is = c.either.ensures ∙ ap (λ (b : Bool). b || (ltb c.args.k.number c.self.inside.retired)) (err.1 ∙ c.self.invariant.1.age (c.max-now.result - birth_in (get c.self.inside.records.places c.args.k.number)) (omega arith)) })
+          (regroup c.args.broken c.in-Ok-Err.expired (eqb c.self.inside.handles 0) (ltb c.args.k.number c.self.inside.retired) (c.self.invariant.1.closed c.args.k.number few) c.either.ensures err.2) (rw err.3 at c.close_and_grant-grant.ensures.granted) (rw err.3 at c.close_and_grant-grant.ensures.state) refl c.close.ensures),
       tt,
     )
 

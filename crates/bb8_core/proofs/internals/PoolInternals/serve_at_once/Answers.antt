@@ -1,8 +1,9 @@
-use Rattle.bb8_core.proofs.Words.{refl, ◌∙◌, arith, Idle, view_of}
+use Rattle.bb8_core.proofs.Words.{ℕ, ◌-◌, max, refl, sym, ap, ◌∙◌, get, arith, Idle, entered_in, is_checked, view_of, subst, StateView}
+use Rattle.bb8_core.specs.StepAnswers.{NotAtOnce}
 use Rattle.bb8_ledger.specs.Acts as acts
 use Rattle.bb8_core.proofs.Fitting.{shown_record, shown_fits, due_fits, fit_idle, fit_leave}
 use Rattle.bb8_core.proofs.Steps.{grants, led, at_view}
-use Rattle.bb8_core.proofs.AtOnce.{between, meets_begun_between, meets_served_between}
+use Rattle.bb8_core.proofs.AtOnce.{between, first_checked, meets_begun_between, meets_served_between}
 use Rattle.bb8_core.proofs.Parts.{both_counted}
 use Rattle.bb8_core.proofs.internals.PoolInternals.serve_at_once.Goals as goal
 
@@ -32,7 +33,7 @@ returns-in-Some-clause-some g c =
           (meets_begun_between c.args.at.0 c.begin_and_end-get.ensures.number
           fit c.max-now.ensures (c.has_room.ensures.number c.if-not-has_room.false)),
       at_view refl
-          (meets_served_between a c.self.inside.counters c.begin_and_end-get.ensures.number c.if-self.false c.max-now.ensures c.in-Some.ensures.some.0
+          (meets_served_between a c.self.inside.counters c.begin_and_end-get.ensures.number (sym (c.checks_first.ensures.value _ c.in-Some.ensures.some.0) ∙ c.if-checks_first.false) c.max-now.ensures c.in-Some.ensures.some.0
           (grants c.in-Some.ensures.some.2 (c.want_with_handle-wanted.ensures c.self.inside.handles (fit_leave refl c.self.invariant.0 fit)) c.grant-grant.ensures.granted c.grant-grant.ensures.state)
           c.begin_and_end-get.ensures.state refl c.serve.ensures),
       λ l legal means. (record { place = Idle c.in-Some.conn; birth = was.0; entered = was.1 }, shown_record l (between a c.max-now.result) means c.in-Some.key.number ∙ was.2, refl),
@@ -48,3 +49,9 @@ invariant_of-self-in-Some g c = (
 
 pub returns-in-Some-clause-counts : goal.returns-in-Some-clause-counts
 returns-in-Some-clause-counts g c = let s = returns-in-Some-clause-some g c in both_counted _ c.args.at.0 _ _ _ c.self.view_is c.self.invariant.0 s.1 s.2
+
+pub returns-then-checks_first-clause-cause : goal.returns-then-checks_first-clause-cause
+returns-then-checks_first-clause-cause g c =
+    let a = view_of c.self.inside in
+    subst (λ (x : StateView g.row.C.Denot). NotAtOnce x c.args.at.0) c.self.view_is (first_checked a c.args.at.0 (λ k first.
+    ap (λ (n : ℕ). is_checked a.config n (entered_in (get a.records.places k))) (sym c.max-now.ensures) ∙ sym (c.checks_first.ensures.value k first) ∙ c.if-checks_first.true))

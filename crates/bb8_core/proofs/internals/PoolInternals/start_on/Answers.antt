@@ -58,8 +58,8 @@ invariant_of-self-in-None g c = (
 pub grant-grant-requires-in-Some : goal.grant-grant-requires-in-Some
 grant-grant-requires-in-Some g c = omega (arith, due_fits (view_of c.self.inside) _ c.self.invariant.0 (omega arith) c.in-Some.ensures.some.2 refl (c.want_with_handle-wanted.ensures c.self.inside.handles (fit_leave c.self.view_is c.self.invariant.0 c.requires)))
 
-pub returns-then-self-clause-step : goal.returns-then-self-clause-step
-returns-then-self-clause-step g c =
+pub returns-then-checked-clause-step : goal.returns-then-checked-clause-step
+returns-then-checked-clause-step g c =
     let a = view_of c.self.inside in
     let now_is = c.max-now.ensures in
     let made = c.make_room_for_one.ensures.made c.if-not-make_room_for_one.false in
@@ -67,19 +67,19 @@ returns-then-self-clause-step g c =
     let was = c.in-Some.ensures.some.1 in (
       between a c.max-now.result,
       at_view c.self.view_is (meets_begun_between c.args.at.0 n_is (fits_view acts.Begin c.self.view_is c.requires) now_is (left _ c.has_number.ensures c.if-not-has_number.false)),
-      at_view refl (meets_taken_between a n_is c.if-self.true now_is c.in-Some.ensures.some.0
+      at_view refl (meets_taken_between a n_is (sym (c.checks_first-checked.ensures.value _ c.in-Some.ensures.some.0) ∙ c.if-checked.true) now_is c.in-Some.ensures.some.0
           (grants (c.in-Some.ensures.some.2
           ∙ ap (λ (h : Holder). machine.after_take (place_with h) c.in-Some.key.number c.self.inside.records)
-          (c.holder-holder.ensures ∙ ap (λ (b : Bool). cond b (Get c.next_number.result) Guard) c.if-self.true
+          (c.holder.ensures ∙ ap (λ (b : Bool). cond b (Get c.next_number.result) Guard) c.if-checked.true
           ∙ ap (λ (m : ℕ). Get m) (c.next_number.ensures ∙ sym c.bear_holding-get.ensures.key)))
           (c.want_with_handle-wanted.ensures c.self.inside.handles (fit_leave c.self.view_is c.self.invariant.0 c.requires)) c.grant-grant-in-Some.ensures.granted c.grant-grant-in-Some.ensures.state)
           (begun_at a.gets (machine.after_turn (Holding c.in-Some.key.number)) made c.bear_holding-get.ensures.state)),
       λ l legal means. (record { place = Idle c.in-Some.conn; birth = was.0; entered = was.1 }, shown_record l (between a c.max-now.result) means c.in-Some.key.number ∙ was.2, refl),
     )
 
-pub invariant_of-self-then-self : goal.invariant_of-self-then-self
-invariant_of-self-then-self g c = (
-  let both = returns-then-self-clause-step g c in
+pub invariant_of-self-then-checked : goal.invariant_of-self-then-checked
+invariant_of-self-then-checked g c = (
+  let both = returns-then-checked-clause-step g c in
       let began = led both.0 c.args.at.0 acts.Begin _ c.self.view_is c.self.invariant.0 both.1 in
       led _ c.args.at.0 (acts.Try c.bear_holding-get.result.number) _ refl began both.2,
   c.self.invariant.1,
@@ -91,8 +91,8 @@ serve-requires g c =
     let few = left c.self.inside.gets.next c.has_number.ensures c.if-not-has_number.false in
     record { direct = omega (arith, fit, few); waited = omega (arith, fit, few) }
 
-pub returns-else-self-clause-step : goal.returns-else-self-clause-step
-returns-else-self-clause-step g c =
+pub returns-else-checked-clause-step : goal.returns-else-checked-clause-step
+returns-else-checked-clause-step g c =
     let a = view_of c.self.inside in
     let now_is = c.max-now.ensures in
     let made = c.make_room_for_one.ensures.made c.if-not-make_room_for_one.false in
@@ -100,10 +100,10 @@ returns-else-self-clause-step g c =
     let was = c.in-Some.ensures.some.1 in (
       between a c.max-now.result,
       at_view c.self.view_is (meets_begun_between c.args.at.0 n_is (fits_view acts.Begin c.self.view_is c.requires) now_is (left _ c.has_number.ensures c.if-not-has_number.false)),
-      at_view refl (meets_served_between a c.self.inside.counters n_is c.if-self.false now_is c.in-Some.ensures.some.0
+      at_view refl (meets_served_between a c.self.inside.counters n_is (sym (c.checks_first-checked.ensures.value _ c.in-Some.ensures.some.0) ∙ c.if-checked.false) now_is c.in-Some.ensures.some.0
           (grants (c.in-Some.ensures.some.2
           ∙ ap (λ (h : Holder). machine.after_take (place_with h) c.in-Some.key.number c.self.inside.records)
-          (c.holder-holder.ensures ∙ ap (λ (b : Bool). cond b (Get c.next_number.result) Guard) c.if-self.false))
+          (c.holder.ensures ∙ ap (λ (b : Bool). cond b (Get c.next_number.result) Guard) c.if-checked.false))
           (c.want_with_handle-wanted.ensures c.self.inside.handles (fit_leave c.self.view_is c.self.invariant.0 c.requires)) c.grant-grant-in-Some.ensures.granted c.grant-grant-in-Some.ensures.state)
           (begun_at a.gets machine.after_get_end made c.begin_and_end.ensures.state) refl c.serve.ensures),
       λ l legal means. (record { place = Idle c.in-Some.conn; birth = was.0; entered = was.1 }, shown_record l (between a c.max-now.result) means c.in-Some.key.number ∙ was.2, refl),
@@ -111,7 +111,7 @@ returns-else-self-clause-step g c =
 
 pub invariant_of-self-in-Some : goal.invariant_of-self-in-Some
 invariant_of-self-in-Some g c = (
-  let both = returns-else-self-clause-step g c in
+  let both = returns-else-checked-clause-step g c in
       let began = led both.0 c.args.at.0 acts.Begin _ c.self.view_is c.self.invariant.0 both.1 in
       led _ c.args.at.0 (acts.Try c.next_number.result) _ refl began both.2,
   c.self.invariant.1,
@@ -120,8 +120,8 @@ invariant_of-self-in-Some g c = (
 pub returns-in-None-clause-counts : goal.returns-in-None-clause-counts
 returns-in-None-clause-counts g c = let s = returns-in-None-clause-step g c in both_counted _ c.args.at.0 _ _ _ c.self.view_is c.self.invariant.0 s.1 s.2
 
-pub returns-then-self-clause-counts : goal.returns-then-self-clause-counts
-returns-then-self-clause-counts g c = let s = returns-then-self-clause-step g c in both_counted _ c.args.at.0 _ _ _ c.self.view_is c.self.invariant.0 s.1 s.2
+pub returns-then-checked-clause-counts : goal.returns-then-checked-clause-counts
+returns-then-checked-clause-counts g c = let s = returns-then-checked-clause-step g c in both_counted _ c.args.at.0 _ _ _ c.self.view_is c.self.invariant.0 s.1 s.2
 
-pub returns-else-self-clause-counts : goal.returns-else-self-clause-counts
-returns-else-self-clause-counts g c = let s = returns-else-self-clause-step g c in both_counted _ c.args.at.0 _ _ _ c.self.view_is c.self.invariant.0 s.1 s.2
+pub returns-else-checked-clause-counts : goal.returns-else-checked-clause-counts
+returns-else-checked-clause-counts g c = let s = returns-else-checked-clause-step g c in both_counted _ c.args.at.0 _ _ _ c.self.view_is c.self.invariant.0 s.1 s.2

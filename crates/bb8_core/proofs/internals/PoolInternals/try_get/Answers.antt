@@ -50,23 +50,23 @@ grant-grant-requires-in-Some g c = omega (arith, due_fits (view_of c.self.inside
 pub turn-requires-clause-stands : goal.turn-requires-clause-stands
 turn-requires-clause-stands g c = trying_off c.getting-getting.ensures.value c.is_trying.ensures c.if-not-is_trying.false c.is_unnotified.ensures c.if-is_unnotified.false
 
-pub returns-then-self-clause-step : goal.returns-then-self-clause-step
-returns-then-self-clause-step g c = (
+pub returns-then-checked-clause-step : goal.returns-then-checked-clause-step
+returns-then-checked-clause-step g c = (
   at_view c.self.view_is
       (meets_taken c.max-now.ensures (tries (view_of c.self.inside) c.getting-getting.ensures.value c.is_trying.ensures c.if-not-is_trying.false)
-      (sym c.is_unnotified.ensures ∙ c.if-is_unnotified.false) c.if-self.true c.in-Some.ensures.some.0
+      (sym c.is_unnotified.ensures ∙ c.if-is_unnotified.false) (sym (c.checks_first-checked.ensures.value _ c.in-Some.ensures.some.0) ∙ c.if-checked.true) c.in-Some.ensures.some.0
       (grants (c.in-Some.ensures.some.2
       ∙ ap (λ (h : Holder). machine.after_take (place_with h) c.in-Some.key.number c.self.inside.records)
-      (c.holder-holder.ensures ∙ ap (λ (b : Bool). cond b (Get c.args.get.number) Guard) c.if-self.true))
+      (c.holder.ensures ∙ ap (λ (b : Bool). cond b (Get c.args.get.number) Guard) c.if-checked.true))
       c.want-wanted.ensures c.grant-grant-in-Some.ensures.granted c.grant-grant-in-Some.ensures.state) c.turn.ensures.state),
   tt,
 )
 
-pub invariant_of-self-then-self : goal.invariant_of-self-then-self
-invariant_of-self-then-self g c = (led _ c.args.at.0 (acts.Try c.args.get.number) _ c.self.view_is c.self.invariant.0 (returns-then-self-clause-step g c).0, c.self.invariant.1)
+pub invariant_of-self-then-checked : goal.invariant_of-self-then-checked
+invariant_of-self-then-checked g c = (led _ c.args.at.0 (acts.Try c.args.get.number) _ c.self.view_is c.self.invariant.0 (returns-then-checked-clause-step g c).0, c.self.invariant.1)
 
-pub returns-then-self-clause-connection : goal.returns-then-self-clause-connection
-returns-then-self-clause-connection g c = λ l legal means.
+pub returns-then-checked-clause-connection : goal.returns-then-checked-clause-connection
+returns-then-checked-clause-connection g c = λ l legal means.
     let was = c.in-Some.ensures.some.1 in
     (record { place = Idle c.in-Some.conn; birth = was.0; entered = was.1 }, shown_record l (view_of c.self.inside) (as_shown l (sym c.self.view_is) means) c.in-Some.key.number ∙ was.2, refl)
 
@@ -79,32 +79,32 @@ serve-requires g c =
     let few = ended_few (view_of c.self.inside) c.args.get.number c.self.invariant.0 st c.finish.ensures.numbers in
     record { direct = omega (arith, few); waited = omega (arith, few) }
 
-pub returns-else-self-clause-step : goal.returns-else-self-clause-step
-returns-else-self-clause-step g c = (
+pub returns-else-checked-clause-step : goal.returns-else-checked-clause-step
+returns-else-checked-clause-step g c = (
   at_view c.self.view_is
       (meets_served c.max-now.ensures c.self.inside.counters (tries (view_of c.self.inside) c.getting-getting.ensures.value c.is_trying.ensures c.if-not-is_trying.false)
-      (sym c.is_unnotified.ensures ∙ c.if-is_unnotified.false) c.if-self.false c.in-Some.ensures.some.0
+      (sym c.is_unnotified.ensures ∙ c.if-is_unnotified.false) (sym (c.checks_first-checked.ensures.value _ c.in-Some.ensures.some.0) ∙ c.if-checked.false) c.in-Some.ensures.some.0
       (grants (c.in-Some.ensures.some.2
       ∙ ap (λ (h : Holder). machine.after_take (place_with h) c.in-Some.key.number c.self.inside.records)
-      (c.holder-holder.ensures ∙ ap (λ (b : Bool). cond b (Get c.args.get.number) Guard) c.if-self.false))
+      (c.holder.ensures ∙ ap (λ (b : Bool). cond b (Get c.args.get.number) Guard) c.if-checked.false))
       c.want-wanted.ensures c.grant-grant-in-Some.ensures.granted c.grant-grant-in-Some.ensures.state) c.finish.ensures.state refl
       c.first_wait.ensures c.serve.ensures),
   tt,
 )
 
 pub invariant_of-self-in-Some : goal.invariant_of-self-in-Some
-invariant_of-self-in-Some g c = (led _ c.args.at.0 (acts.Try c.args.get.number) _ c.self.view_is c.self.invariant.0 (returns-else-self-clause-step g c).0, c.self.invariant.1)
+invariant_of-self-in-Some g c = (led _ c.args.at.0 (acts.Try c.args.get.number) _ c.self.view_is c.self.invariant.0 (returns-else-checked-clause-step g c).0, c.self.invariant.1)
 
-pub returns-else-self-clause-connection : goal.returns-else-self-clause-connection
-returns-else-self-clause-connection g c = λ l legal means.
+pub returns-else-checked-clause-connection : goal.returns-else-checked-clause-connection
+returns-else-checked-clause-connection g c = λ l legal means.
     let was = c.in-Some.ensures.some.1 in
     (record { place = Idle c.in-Some.conn; birth = was.0; entered = was.1 }, shown_record l (view_of c.self.inside) (as_shown l (sym c.self.view_is) means) c.in-Some.key.number ∙ was.2, refl)
 
 pub returns-in-None-clause-counts : goal.returns-in-None-clause-counts
 returns-in-None-clause-counts g c = counted _ c.args.at.0 (acts.Try c.args.get.number) _ c.self.view_is c.self.invariant.0 (returns-in-None-clause-step g c).0
 
-pub returns-then-self-clause-counts : goal.returns-then-self-clause-counts
-returns-then-self-clause-counts g c = counted _ c.args.at.0 (acts.Try c.args.get.number) _ c.self.view_is c.self.invariant.0 (returns-then-self-clause-step g c).0
+pub returns-then-checked-clause-counts : goal.returns-then-checked-clause-counts
+returns-then-checked-clause-counts g c = counted _ c.args.at.0 (acts.Try c.args.get.number) _ c.self.view_is c.self.invariant.0 (returns-then-checked-clause-step g c).0
 
-pub returns-else-self-clause-counts : goal.returns-else-self-clause-counts
-returns-else-self-clause-counts g c = counted _ c.args.at.0 (acts.Try c.args.get.number) _ c.self.view_is c.self.invariant.0 (returns-else-self-clause-step g c).0
+pub returns-else-checked-clause-counts : goal.returns-else-checked-clause-counts
+returns-else-checked-clause-counts g c = counted _ c.args.at.0 (acts.Try c.args.get.number) _ c.self.view_is c.self.invariant.0 (returns-else-checked-clause-step g c).0

@@ -1,0 +1,9 @@
+use Rattle.bb8_lock.proofs.Words.{refl}
+use Rattle.bb8_ledger.specs.Acts.{Close}
+use Rattle.bb8_core.proofs.Runs.{unfit_step}
+use Rattle.bb8_lock.proofs.home.LockedGetHome.close.Goals as goal
+
+pub returns-then-not-fits_close : goal.returns-then-not-fits_close
+returns-then-not-fits_close g c =
+    let unfit = unfit_step c.args.at.0 Close c.if-not-fits_close.ensures in
+    (((c.args.self.now.settled, (c.limits.ensures.ledger, unfit.0)), unfit.1), tt, refl)
