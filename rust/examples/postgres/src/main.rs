@@ -2,10 +2,14 @@
 //! connections are ended, the server is restarted, ages run out, and gets time out. Afterwards the
 //! table, the server's view, the tasks' own counts and the pool's figures are compared.
 //!
-//! Arguments: the connection string, and the command that restarts the server.
+//! Arguments: the connection string, and the command that restarts the server. If the connections
+//! are to PgBouncer, also the connection string of the server; and if PgBouncer pools transactions,
+//! also how many connections it may have. That serves the same transactions, because the statement
+//! of each is prepared and closed inside of it.
 
 use bb8::{ErrorSink, Pool, PooledConnection, RunError};
-use postgres_manager::{open, Closed, Connection, Database};
+use postgres_manager::{open, Connection, Database, Log};
+use postgres_service::balances;
 use std::collections::BTreeSet;
 use std::env;
 use std::process::{Command, ExitCode};
@@ -44,6 +48,8 @@ struct Seen {
     sunk: AtomicU64,
     quiet: AtomicBool,
     done: AtomicBool,
+    /// How many connections to the server PgBouncer may have, if it pools transactions.
+    shared: Option<u64>,
 }
 
 #[derive(Clone)]
@@ -129,7 +135,7 @@ async fn work(pool: Pool<Database>, seen: Arc<Seen>) {
 }
 
 /// Samples which processes of the pool the server has.
-async fn watch(config: Config, closed: Closed, seen: Arc<Seen>) {
+async fn watch(config: Config, log: Arc<Log>, seen: Arc<Seen>) {
     let query = "SELECT pid FROM pg_stat_activity WHERE application_name = 'pool'";
     while !seen.done.load(SeqCst) {
         let Ok(client) = open(&config).await else {
@@ -140,7 +146,7 @@ async fn watch(config: Config, closed: Closed, seen: Arc<Seen>) {
             let Ok(rows) = client.query(query, &[]).await else {
                 break;
             };
-            note(&rows, &closed, &seen);
+            note(&rows, &log, &seen);
             seen.samples.fetch_add(1, SeqCst);
             sleep(Duration::from_millis(2)).await;
         }
@@ -148,8 +154,8 @@ async fn watch(config: Config, closed: Closed, seen: Arc<Seen>) {
 }
 
 /// Notes how many processes of the pool the server has, with those that it had closed, and without.
-fn note(rows: &[Row], closed: &Closed, seen: &Seen) {
-    let closed = closed.lock().unwrap();
+fn note(rows: &[Row], log: &Log, seen: &Seen) {
+    let closed = log.closed.lock().unwrap();
     let alive = rows.iter().filter(|row| !closed.contains(&row.get(0)));
     seen.connections.fetch_max(alive.count() as u64, SeqCst);
     seen.processes.fetch_max(rows.len() as u64, SeqCst);
@@ -208,19 +214,24 @@ async fn exhaust(pool: &Pool<Database>, seen: &Seen) {
 #[tokio::main(worker_threads = 4)]
 async fn main() -> Result<ExitCode, Box<dyn std::error::Error>> {
     let arguments: Vec<String> = env::args().collect();
-    let [_, server, restart] = &arguments[..] else {
-        return Err("arguments: CONNECTION RESTART".into());
+    let (server, restart, admin, shared) = match &arguments[..] {
+        [_, server, restart] => (server, restart, server, None),
+        [_, server, restart, admin] => (server, restart, admin, None),
+        [_, server, restart, admin, shared] => (server, restart, admin, Some(shared.parse()?)),
+        _ => return Err("arguments: CONNECTION RESTART [DIRECTLY [CONNECTIONS]]".into()),
     };
-    let mut config: Config = server.parse()?;
-    let admin = config.application_name("admin").clone();
-    config.application_name("pool");
+    let config = server.parse::<Config>()?.application_name("pool").clone();
+    let admin = admin.parse::<Config>()?.application_name("admin").clone();
     let setup = open(&admin).await?;
-    let table = "CREATE TABLE entries (id bigint PRIMARY KEY)";
+    let table = "DROP TABLE IF EXISTS entries; CREATE TABLE entries (id bigint PRIMARY KEY)";
     setup.batch_execute(table).await?;
     drop(setup);
 
-    let seen = Arc::new(Seen::default());
-    let closed = Closed::default();
+    let seen = Arc::new(Seen {
+        shared,
+        ..Seen::default()
+    });
+    let log = Arc::new(Log::default());
     let pool = Pool::builder()
         .max_size(CONNECTIONS)
         .min_idle(2)
@@ -231,11 +242,11 @@ async fn main() -> Result<ExitCode, Box<dyn std::error::Error>> {
         .error_sink(Box::new(Sink(seen.clone())))
         .build(Database {
             config,
-            closed: closed.clone(),
+            log: log.clone(),
         })
         .await?;
     let begin = Instant::now();
-    let watching = tokio::spawn(watch(admin.clone(), closed, seen.clone()));
+    let watching = tokio::spawn(watch(admin.clone(), log.clone(), seen.clone()));
     let ending = tokio::spawn(end_some(admin.clone(), seen.clone()));
     let disturbing = tokio::spawn(disturb(restart.clone(), seen.clone()));
     let tasks: Vec<_> = (0..TASKS)
@@ -250,7 +261,7 @@ async fn main() -> Result<ExitCode, Box<dyn std::error::Error>> {
     watching.await?;
     ending.await?;
     exhaust(&pool, &seen).await;
-    judge(&pool, &admin, &seen, took).await
+    judge(&pool, &admin, &seen, &log, took).await
 }
 
 /// Compares what was seen, and tells it.
@@ -258,8 +269,10 @@ async fn judge(
     pool: &Pool<Database>,
     admin: &Config,
     seen: &Seen,
+    log: &Log,
     took: Duration,
 ) -> Result<ExitCode, Box<dyn std::error::Error>> {
+    let is_balanced = balances(pool, log).await;
     let client = open(admin).await?;
     let rows = client.query("SELECT id FROM entries", &[]).await?;
     let rows: BTreeSet<i64> = rows.iter().map(|row| row.get(0)).collect();
@@ -331,16 +344,13 @@ async fn judge(
         figures.pending_gets()
     );
     let served = figures.get_direct + figures.get_waited;
-    let checks = [
+    let mut checks = vec![
         ("what was told as committed is in the table", lost == 0),
         (
             "what else is there was in doubt",
             untold.is_subset(&in_doubt),
         ),
-        (
-            "connections were within max_size",
-            read(&seen.connections) <= u64::from(CONNECTIONS),
-        ),
+        ("connections were within the limit", is_within(seen)),
         ("each get was answered in time", longest < PATIENCE + SLACK),
         (
             "gets were started as the pool says",
@@ -356,12 +366,21 @@ async fn judge(
         ),
         ("all of it happened", all_happened(seen, figures)),
     ];
-    for (name, holds) in checks {
-        println!("{} {name}", if holds { "yes:" } else { "NO: " });
+    checks.extend(is_balanced.map(|holds| ("connections are accounted for", holds)));
+    for (name, holds) in &checks {
+        println!("{} {name}", if *holds { "yes:" } else { "NO: " });
     }
     Ok(ExitCode::from(u8::from(
         checks.iter().any(|(_, holds)| !holds),
     )))
+}
+
+/// Whether the server had at most as many connections as the pool may have, or PgBouncer.
+fn is_within(seen: &Seen) -> bool {
+    match seen.shared {
+        None => seen.connections.load(SeqCst) <= u64::from(CONNECTIONS),
+        Some(limit) => seen.processes.load(SeqCst) <= limit,
+    }
 }
 
 /// Whether gets timed out and were let go, and connections ended in each way.

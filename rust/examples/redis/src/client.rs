@@ -1,22 +1,22 @@
 //! A connection that speaks the protocol of Redis.
 
-use std::collections::HashSet;
+use crate::Log;
 use std::io::{self, ErrorKind};
-use std::sync::{Arc, Mutex};
+use std::sync::atomic::Ordering::SeqCst;
+use std::sync::Arc;
 use tokio::io::{AsyncBufReadExt, AsyncReadExt, AsyncWriteExt, BufReader};
 use tokio::net::TcpStream;
 
 /// What the server answers: a text, or its own error.
 pub type Answer = Result<String, String>;
 
-/// The names of connections that were closed on this side. The server may list one a little longer,
-/// until it has read that.
-pub type Closed = Arc<Mutex<HashSet<String>>>;
-
+/// A connection to a server.
 pub struct Client {
     stream: BufReader<TcpStream>,
     name: String,
-    closed: Closed,
+    log: Arc<Log>,
+    /// Whether `Log::opened` counts it.
+    pub(crate) is_counted: bool,
     /// Whether an answer is still to be read. The next request would be given it.
     asked: bool,
 }
@@ -24,28 +24,40 @@ pub struct Client {
 impl Drop for Client {
     fn drop(&mut self) {
         let name = std::mem::take(&mut self.name);
-        self.closed.lock().unwrap().insert(name);
+        self.log.closed.lock().unwrap().insert(name);
+        let count = u64::from(self.is_counted);
+        self.log.dropped.fetch_add(count, SeqCst);
     }
 }
 
 impl Client {
-    /// Opens a connection that the server lists by this name.
-    pub async fn open(server: &str, name: String, closed: &Closed) -> io::Result<Client> {
-        let stream = TcpStream::connect(server).await?;
+    /// Opens a connection that the server lists by this name. The server is `HOST:PORT`, or
+    /// `PASSWORD@HOST:PORT`.
+    pub async fn open(server: &str, name: String, log: &Arc<Log>) -> io::Result<Client> {
+        let (password, address) = match server.rsplit_once('@') {
+            Some((password, address)) => (Some(password), address),
+            None => (None, server),
+        };
+        let stream = TcpStream::connect(address).await?;
         stream.set_nodelay(true)?;
         let mut client = Client {
             stream: BufReader::new(stream),
             name: name.clone(),
-            closed: closed.clone(),
+            log: log.clone(),
+            is_counted: false,
             asked: false,
         };
+        if let Some(password) = password {
+            let known = client.ask(&["AUTH", password]).await?;
+            known.map_err(io::Error::other)?;
+        }
         let named = client.ask(&["CLIENT", "SETNAME", &name]).await?;
         named.map_err(io::Error::other)?;
         Ok(client)
     }
 
-    /// Sends a request and reads its answer. Where this is let go half-way, or fails, the connection
-    /// stays broken.
+    /// Sends a request and reads its answer. Where this is let go half-way, or fails, the
+    /// connection stays broken.
     pub async fn ask(&mut self, words: &[&str]) -> io::Result<Answer> {
         let mut request = format!("*{}\r\n", words.len());
         for word in words {
@@ -58,6 +70,7 @@ impl Client {
         Ok(answer)
     }
 
+    /// Whether an answer is still to be read.
     pub fn is_broken(&self) -> bool {
         self.asked
     }

@@ -1,18 +1,16 @@
-//! A service over Redis: tasks ask a server over the few connections of a pool, while connections are
-//! ended, the server is killed and started anew, and requests are cut off half-way. Afterwards the
-//! answers, the server's view, the tasks' own counts and the pool's figures are compared.
+//! A service over Redis: tasks ask a server over the few connections of a pool, while connections
+//! are ended, the server is killed and started anew, and requests are cut off half-way. Afterwards
+//! the answers, the server's view, the tasks' own counts and the pool's figures are compared.
 //!
 //! Arguments: the server's address, and the command that kills it and starts it anew.
 
-mod client;
-
-use bb8::{ManageConnection, Pool, RunError, Statistics};
-use client::{Client, Closed};
+use bb8::{Pool, RunError, Statistics};
+use redis_service::{balances, Client, Log, Server};
 use std::env;
 use std::io;
 use std::process::ExitCode;
 use std::sync::atomic::{AtomicBool, AtomicU64, Ordering::SeqCst};
-use std::sync::Arc;
+use std::sync::{Arc, Mutex};
 use std::time::{Duration, Instant};
 use tokio::process::Command;
 use tokio::time::{sleep, timeout};
@@ -23,34 +21,6 @@ const CONNECTIONS: u32 = 5;
 const PATIENCE: Duration = Duration::from_millis(500);
 /// How late the machine may run a task whose time has come.
 const SLACK: Duration = Duration::from_secs(3);
-
-/// Opens connections to a server.
-struct Server {
-    address: String,
-    opened: AtomicU64,
-    closed: Closed,
-}
-
-impl ManageConnection for Server {
-    type Connection = Client;
-    type Error = io::Error;
-
-    async fn connect(&self) -> io::Result<Client> {
-        let name = format!("pool-{}", self.opened.fetch_add(1, SeqCst));
-        Client::open(&self.address, name, &self.closed).await
-    }
-
-    async fn is_valid(&self, conn: &mut Client) -> io::Result<()> {
-        match conn.ask(&["PING"]).await? {
-            Ok(_) => Ok(()),
-            Err(told) => Err(io::Error::other(told)),
-        }
-    }
-
-    fn has_broken(&self, conn: &mut Client) -> bool {
-        conn.is_broken()
-    }
-}
 
 /// What the tasks did, and what was seen of the server.
 #[derive(Default)]
@@ -117,10 +87,10 @@ async fn work(task: u64, pool: Pool<Server>, seen: Arc<Seen>) {
 
 /// Counts the pool's connections by the server, less those that it had closed, and ends all of them
 /// now and then.
-async fn look(server: &str, closed: &Closed, round: u64, seen: &Seen) -> io::Result<()> {
-    let mut client = Client::open(server, "look".to_string(), closed).await?;
+async fn look(server: &str, log: &Arc<Log>, round: u64, seen: &Seen) -> io::Result<()> {
+    let mut client = Client::open(server, "look".to_string(), log).await?;
     if let Ok(told) = client.ask(&["CLIENT", "LIST", "TYPE", "normal"]).await? {
-        let closed = closed.lock().unwrap();
+        let closed = log.closed.lock().unwrap();
         let names = told
             .split(' ')
             .filter_map(|word| word.strip_prefix("name="));
@@ -137,11 +107,11 @@ async fn look(server: &str, closed: &Closed, round: u64, seen: &Seen) -> io::Res
 }
 
 /// Disturbs the service for some seconds; in two of them the server is killed.
-async fn disturb(server: &str, restart: &str, closed: &Closed, seen: &Seen) -> io::Result<()> {
+async fn disturb(server: &str, restart: &str, log: &Arc<Log>, seen: &Seen) -> io::Result<()> {
     for round in 0..40 {
         sleep(Duration::from_millis(100)).await;
         // (a look fails where the server is not there yet)
-        let _failed = look(server, closed, round, seen).await;
+        let _failed = look(server, log, round, seen).await;
         if round == 12 || round == 25 {
             let status = Command::new("sh").args(["-c", restart]).status().await?;
             assert!(status.success());
@@ -156,11 +126,10 @@ async fn main() -> Result<ExitCode, Box<dyn std::error::Error>> {
     let [_, server, restart] = &arguments[..] else {
         return Err("arguments: SERVER RESTART".into());
     };
-    let closed = Closed::default();
+    let log = Arc::new(Log::default());
     let manager = Server {
-        address: server.clone(),
-        opened: AtomicU64::new(0),
-        closed: closed.clone(),
+        address: Arc::new(Mutex::new(server.clone())),
+        log: log.clone(),
     };
     let pool = Pool::builder()
         .max_size(CONNECTIONS)
@@ -175,16 +144,17 @@ async fn main() -> Result<ExitCode, Box<dyn std::error::Error>> {
     let tasks: Vec<_> = (0..TASKS)
         .map(|task| tokio::spawn(work(task, pool.clone(), seen.clone())))
         .collect();
-    disturb(server, restart, &closed, &seen).await?;
+    disturb(server, restart, &log, &seen).await?;
     seen.done.store(true, SeqCst);
     for task in tasks {
         task.await?;
     }
-    Ok(judge(&seen, &pool.state().statistics))
+    let is_balanced = balances(&pool, &log).await;
+    Ok(judge(&seen, &pool.state().statistics, is_balanced))
 }
 
 /// Compares what was seen, and tells it.
-fn judge(seen: &Seen, figures: &Statistics) -> ExitCode {
+fn judge(seen: &Seen, figures: &Statistics, is_balanced: bool) -> ExitCode {
     let read = |count: &AtomicU64| count.load(SeqCst);
     let told = [
         ("gets served", read(&seen.served)),
@@ -227,6 +197,8 @@ fn judge(seen: &Seen, figures: &Statistics) -> ExitCode {
             "gets timed out as the pool says",
             read(&seen.timed_out) == figures.get_timed_out,
         ),
+        ("connections are accounted for", is_balanced),
+        ("no get is pending", figures.pending_gets() == 0),
         ("all of it happened", all_happened(seen, figures)),
     ];
     for (name, holds) in checks {

@@ -3,6 +3,8 @@
 use bb8::ManageConnection;
 use rusqlite::{params, Connection, Error, TransactionBehavior};
 use std::path::{Path, PathBuf};
+use std::sync::atomic::{AtomicU64, Ordering::SeqCst};
+use std::sync::Arc;
 use std::time::Duration;
 use tokio::task::spawn_blocking;
 
@@ -13,6 +15,8 @@ const BALANCE: i64 = 1_000;
 #[derive(Clone, Debug)]
 pub struct Database {
     file: PathBuf,
+    /// How many connections were opened for the pool.
+    pub opened: Arc<AtomicU64>,
 }
 
 impl Database {
@@ -30,7 +34,8 @@ impl Database {
             transaction.execute(insert, params![id, BALANCE])?;
         }
         transaction.commit()?;
-        Ok(Database { file })
+        let opened = Arc::default();
+        Ok(Database { file, opened })
     }
 }
 
@@ -50,7 +55,9 @@ impl ManageConnection for Database {
     async fn connect(&self) -> Result<Connection, Error> {
         let file = self.file.clone();
         let opening = spawn_blocking(move || open(&file));
-        opening.await.expect("the attempt does not panic")
+        let conn = opening.await.expect("the attempt does not panic")?;
+        self.opened.fetch_add(1, SeqCst);
+        Ok(conn)
     }
 
     /// Runs a statement that does not read the file, so this takes microseconds.

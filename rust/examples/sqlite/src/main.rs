@@ -4,8 +4,8 @@
 //! cargo run --release -p sqlite-service -- --seconds 3
 //! ```
 //!
-//! It prints requests, latencies and the pool's statistics, and checks the sums in the database.
-//! The exit status is 1 if they are wrong or a request failed.
+//! It prints requests, latencies and the pool's statistics, and checks the sums in the database and
+//! in the statistics. The exit status is 1 if they are wrong or a request failed.
 
 mod database;
 
@@ -14,6 +14,7 @@ use database::{balance, transfer, Database, Sums, ACCOUNTS};
 use std::error::Error;
 use std::io::{stderr, IsTerminal};
 use std::process::ExitCode;
+use std::sync::atomic::Ordering::SeqCst;
 use std::time::{Duration, Instant};
 use std::{env, fs, process};
 use tokio::task::{block_in_place, spawn_blocking, JoinError};
@@ -23,6 +24,8 @@ type Failure = Box<dyn Error + Send + Sync>;
 
 const TASKS: u64 = 64;
 const CONNECTIONS: u32 = 8;
+/// How long a request waits for its connection.
+const PATIENCE: Duration = Duration::from_secs(2);
 
 /// Prints errors of connection attempts and of failed checks, for which no caller waits.
 #[derive(Clone, Debug)]
@@ -65,7 +68,7 @@ impl Random {
 async fn request(pool: &Pool<Database>, random: &mut Random) -> Result<bool, Failure> {
     let (source, target) = (random.below(ACCOUNTS), random.below(ACCOUNTS));
     let (amount, is_write) = (1 + random.below(10) as i64, random.below(8) == 0);
-    let mut conn = pool.get_owned().await?;
+    let mut conn = pool.get_owned_timeout(PATIENCE).await?;
     let work = move || match is_write {
         true => transfer(&mut conn, source, target, amount),
         false => balance(&conn, source).map(drop),
@@ -166,8 +169,16 @@ fn print(all: &[Done], time: Duration, state: &State) {
     }
 }
 
+/// Whether every connection is accounted for. `opened` is the manager's own count.
+fn balances(state: &State, opened: u64) -> bool {
+    let counts = &state.statistics;
+    let begun = counts.connections_created + counts.connections_added;
+    let ended = counts.connections_closed + counts.connections_detached;
+    counts.connections_created == opened && begun == ended + u64::from(state.connections)
+}
+
 /// Whether no request failed, and the sums in the database and in the pool are right.
-async fn is_right(pool: &Pool<Database>, all: &[Done]) -> Result<bool, Failure> {
+async fn is_right(pool: &Pool<Database>, all: &[Done], opened: u64) -> Result<bool, Failure> {
     for error in all.iter().filter_map(|done| done.failure.as_ref()) {
         println!("a request failed: {error}");
     }
@@ -182,9 +193,10 @@ async fn is_right(pool: &Pool<Database>, all: &[Done]) -> Result<bool, Failure> 
         && requests > 0
         && state.connections <= CONNECTIONS
         && state.statistics.get_direct + state.statistics.get_waited == requests
-        && state.statistics.pending_gets() == 0;
+        && state.statistics.pending_gets() == 0
+        && balances(&state, opened);
     let verdict = if is_right { "right" } else { "WRONG" };
-    println!("{:<22}{verdict:>10}", "sums in the database");
+    println!("{:<22}{verdict:>10}", "sums");
     Ok(is_right)
 }
 
@@ -204,6 +216,7 @@ async fn serve() -> Result<bool, Failure> {
     let folder = env::temp_dir().join(format!("sqlite-service-{}", process::id()));
     fs::create_dir(&folder)?;
     let manager = Database::create(&folder.join("bank.db"))?;
+    let opened = manager.opened.clone();
     let pool = Pool::builder()
         .max_size(CONNECTIONS)
         .min_idle(CONNECTIONS)
@@ -218,8 +231,8 @@ async fn serve() -> Result<bool, Failure> {
     );
     let all = run(&pool, time).await?;
     print(&all, time, &pool.state());
-    let is_right = is_right(&pool, &all).await?;
-    drop(pool);
+    let is_right = is_right(&pool, &all, opened.load(SeqCst)).await?;
+    pool.close().await;
     fs::remove_dir_all(&folder)?;
     Ok(is_right)
 }

@@ -2,12 +2,21 @@
 
 use bb8::ManageConnection;
 use std::collections::HashSet;
+use std::sync::atomic::{AtomicU64, Ordering::SeqCst};
 use std::sync::{Arc, Mutex};
-use tokio_postgres::{Client, Config, Error, NoTls};
+use tokio_postgres::{Client, Config, Error, NoTls, SimpleQueryMessage};
 
-/// The server processes of connections that were closed on this side. A process may live a little
-/// longer, until it has read that.
-pub type Closed = Arc<Mutex<HashSet<i32>>>;
+/// What happened to connections, counted without the pool.
+#[derive(Default)]
+pub struct Log {
+    /// Connections that were opened.
+    pub opened: AtomicU64,
+    /// Those of them that were dropped.
+    pub dropped: AtomicU64,
+    /// The server processes of dropped connections. A process may live a little longer, until it
+    /// has read that its connection was closed.
+    pub closed: Mutex<HashSet<i32>>,
+}
 
 /// A connection to PostgreSQL. A task of its own moves its bytes, and ends with it.
 pub struct Connection {
@@ -16,12 +25,13 @@ pub struct Connection {
     /// Whether a transaction is open. Then the connection is not fit for another user.
     pub in_transaction: bool,
     process: i32,
-    closed: Closed,
+    log: Arc<Log>,
 }
 
 impl Drop for Connection {
     fn drop(&mut self) {
-        self.closed.lock().unwrap().insert(self.process);
+        self.log.closed.lock().unwrap().insert(self.process);
+        self.log.dropped.fetch_add(1, SeqCst);
     }
 }
 
@@ -35,12 +45,22 @@ pub async fn open(config: &Config) -> Result<Client, Error> {
     Ok(client)
 }
 
+/// Returns the number of the server's process, by a query that prepares no statement.
+async fn process_of(client: &Client) -> Result<i32, Error> {
+    let messages = client.simple_query("SELECT pg_backend_pid()").await?;
+    let process = messages.iter().find_map(|message| match message {
+        SimpleQueryMessage::Row(row) => row.get(0)?.parse().ok(),
+        _ => None,
+    });
+    Ok(process.expect("the server returns a number"))
+}
+
 /// Opens connections to one database.
 pub struct Database {
     /// Where the database is.
     pub config: Config,
-    /// Where closed connections are told.
-    pub closed: Closed,
+    /// The log of its connections.
+    pub log: Arc<Log>,
 }
 
 impl ManageConnection for Database {
@@ -49,12 +69,15 @@ impl ManageConnection for Database {
 
     async fn connect(&self) -> Result<Connection, Error> {
         let client = open(&self.config).await?;
-        let row = client.query_one("SELECT pg_backend_pid()", &[]).await?;
+        let process = process_of(&client).await?;
+        // (PgBouncer gives the process of a closed connection to a later one)
+        self.log.closed.lock().unwrap().remove(&process);
+        self.log.opened.fetch_add(1, SeqCst);
         Ok(Connection {
             client,
             in_transaction: false,
-            process: row.get(0),
-            closed: self.closed.clone(),
+            process,
+            log: self.log.clone(),
         })
     }
 

@@ -1,16 +1,22 @@
-//! Outages of PostgreSQL: server processes that freeze, as in a failover without a reset; a role
-//! that the server refuses; a server that accepts connections and never answers. In each, gets end
-//! in time, and are served again once that is possible.
+//! Outages of PostgreSQL: server processes that freeze, as in a failover without a reset; a server
+//! that is killed and restarted; a role or a password that the server refuses; a server that
+//! accepts connections and never answers. In each, gets end in time, and gets after it are all
+//! served.
 //!
-//! Argument: the connection string. The server's processes are stopped by `kill`.
+//! Arguments: the connection string, and the commands that kill the server and start it. Its
+//! processes are frozen by `kill`. It has to ask the role `guarded` for a password.
 
-use bb8::{ErrorSink, Pool, RunError, State};
-use postgres_manager::{open, Closed, Database};
+use bb8::{ErrorSink, Pool, RunError, Statistics};
+use postgres_manager::{open, Database, Log};
+use postgres_service::balances;
 use std::env;
+use std::future::Future;
 use std::process::{Command, ExitCode};
+use std::sync::atomic::{AtomicBool, Ordering::SeqCst};
 use std::sync::{Arc, Mutex};
 use std::time::{Duration, Instant};
-use tokio::net::TcpListener;
+use tokio::io::copy_bidirectional;
+use tokio::net::{TcpListener, TcpStream};
 use tokio::time::sleep;
 use tokio_postgres::{Client, Config, Error};
 
@@ -37,8 +43,8 @@ impl ErrorSink<Error> for Sink {
     }
 }
 
-/// What a load of gets met: how many were served and failed, how many of those that began later than
-/// `PATIENCE` failed, and the longest get.
+/// What a load of gets met: how many were served and failed, how many of those that began later
+/// than `PATIENCE` failed, and the longest get.
 #[derive(Debug, Default)]
 struct Met {
     served: u32,
@@ -54,18 +60,33 @@ fn builder(limit: Option<Duration>) -> bb8::Builder<Database> {
         .test_timeout(limit)
 }
 
-fn database(config: &Config) -> Database {
+fn database(config: &Config, log: &Arc<Log>) -> Database {
     Database {
         config: config.clone(),
-        closed: Closed::default(),
+        log: log.clone(),
     }
 }
 
-/// Whether every connection is accounted for.
-fn balances(state: &State) -> bool {
-    let counts = &state.statistics;
-    counts.connections_created + counts.connections_added
-        == counts.connections_closed + u64::from(state.connections)
+impl Sink {
+    fn any(&self, part: &str) -> bool {
+        let errors = self.0.lock().unwrap();
+        errors.iter().any(|error| error.contains(part))
+    }
+
+    fn all(&self, part: &str) -> bool {
+        let errors = self.0.lock().unwrap();
+        !errors.is_empty() && errors.iter().all(|error| error.contains(part))
+    }
+}
+
+impl Met {
+    fn is_in_time(&self) -> bool {
+        self.longest < PATIENCE + SLACK
+    }
+
+    fn is_well(&self) -> bool {
+        self.is_in_time() && self.failed == 0 && self.served > 100
+    }
 }
 
 /// Has tasks get connections and ask the server for so long.
@@ -100,28 +121,30 @@ async fn load(pool: &Pool<Database>, long: Duration) -> Result<Met, Failure> {
     Ok(met)
 }
 
-fn signal(name: &str, processes: &[i32]) -> Result<(), Failure> {
-    let numbers = processes.iter().map(i32::to_string);
-    let status = Command::new("kill")
-        .arg(format!("-{name}"))
-        .args(numbers)
-        .status()?;
-    if status.success() {
+fn run(command: &str) -> Result<(), Failure> {
+    if Command::new("sh").args(["-c", command]).status()?.success() {
         Ok(())
     } else {
-        Err("kill failed".into())
+        Err(format!("failed: {command}").into())
     }
 }
 
-/// Freezes the server's processes of a full pool, and has it loaded.
+fn signal(name: &str, processes: &[i32]) -> Result<(), Failure> {
+    let numbers: Vec<String> = processes.iter().map(i32::to_string).collect();
+    run(&format!("kill -{name} {}", numbers.join(" ")))
+}
+
+/// Freezes the server's processes of a full pool, and has it loaded. Returns what it met, the
+/// pool's statistics, and whether they balance.
 async fn freeze(
     admin: &Client,
     config: &Config,
     limit: Option<Duration>,
-) -> Result<(Met, State), Failure> {
+) -> Result<(Met, Statistics, bool), Failure> {
+    let log = Arc::default();
     let pool = builder(limit)
         .min_idle(CONNECTIONS)
-        .build(database(config))
+        .build(database(config, &log))
         .await?;
     let query = "SELECT pid FROM pg_stat_activity WHERE application_name = 'pool'";
     let rows = admin.query(query, &[]).await?;
@@ -129,66 +152,110 @@ async fn freeze(
     signal("STOP", &processes)?;
     let met = load(&pool, 3 * PATIENCE).await;
     signal("CONT", &processes)?;
-    Ok((met?, pool.state()))
+    let is_balanced = balances(&pool, &log).await == Some(true);
+    Ok((met?, pool.state().statistics, is_balanced))
 }
 
-/// Gets from a server that refuses the role, and again once it knows it.
-async fn refuse(admin: &Client, config: &Config) -> Result<bool, Failure> {
-    let sink = Sink::default();
-    let unknown = config.clone().user("newcomer").clone();
+/// Loads a full pool while the server is down, and after it was restarted.
+async fn kill(config: &Config, kill: &str, start: &str) -> Result<bool, Failure> {
+    let (sink, log) = (Sink::default(), Arc::default());
     let pool = builder(None)
+        .min_idle(CONNECTIONS)
         .error_sink(Box::new(sink.clone()))
-        .build_unchecked(database(&unknown));
-    let start = Instant::now();
-    let is_late = matches!(pool.get().await, Err(RunError::TimedOut));
-    let in_time = start.elapsed() < PATIENCE + SLACK;
-    let state = pool.state();
-    let has_cause = sink
-        .0
-        .lock()
-        .unwrap()
-        .iter()
-        .all(|error| error.contains("newcomer"));
-    println!(
-        "refused: {} attempts failed",
-        state.statistics.connections_failed
-    );
-    admin.batch_execute("CREATE ROLE newcomer LOGIN").await?;
-    sleep(PATIENCE).await;
-    let is_served = pool.get().await.is_ok();
-    let has_failed = state.statistics.connections_failed > 1;
-    Ok(is_late && in_time && has_failed && has_cause && is_served && balances(&pool.state()))
+        .build(database(config, &log))
+        .await?;
+    run(kill)?;
+    let during = load(&pool, 2 * PATIENCE).await;
+    let counts = pool.state().statistics;
+    run(start)?;
+    let (during, after) = (during?, load(&pool, PATIENCE).await?);
+    println!("killed: during {during:?}, after {after:?}");
+    let were_closed = counts
+        .connections_closed_broken
+        .max(counts.connections_closed_invalid);
+    let has_cause = counts.connections_failed > 1
+        && were_closed >= u64::from(CONNECTIONS)
+        && sink.any("ConnectionRefused");
+    let has_failed = during.served == 0 && during.failed > 0;
+    let is_well = during.is_in_time() && after.is_well();
+    Ok(has_failed && is_well && has_cause && balances(&pool, &log).await == Some(true))
 }
 
-/// Gets from a server that accepts connections and never answers.
+/// Loads an empty pool while no connection can be opened, and again after `mend`. All errors have
+/// to contain the cause, if one is given.
+async fn shut_out(
+    builder: bb8::Builder<Database>,
+    config: &Config,
+    cause: Option<&str>,
+    mend: impl Future<Output = Result<(), Failure>>,
+) -> Result<bool, Failure> {
+    let (sink, log) = (Sink::default(), Arc::default());
+    let pool = builder
+        .error_sink(Box::new(sink.clone()))
+        .build_unchecked(database(config, &log));
+    let during = load(&pool, 2 * PATIENCE).await?;
+    let has_failed = during.served == 0 && during.failed > 0;
+    let times_out = matches!(pool.get().await, Err(RunError::TimedOut));
+    let attempts = pool.state().statistics.connections_failed;
+    let has_cause = attempts > 1 && cause.map_or(true, |cause| sink.all(cause));
+    mend.await?;
+    let after = load(&pool, PATIENCE).await?;
+    println!("shut out: {attempts} attempts failed, during {during:?}, after {after:?}");
+    let is_well = during.is_in_time() && after.is_well();
+    let is_balanced = balances(&pool, &log).await == Some(true);
+    Ok(has_failed && times_out && is_well && has_cause && is_balanced)
+}
+
+/// Gets from a server that refuses the role, until a command of the admin.
+async fn refuse(
+    admin: &Client,
+    config: &Config,
+    cause: &str,
+    command: &str,
+) -> Result<bool, Failure> {
+    let mend = async { Ok(admin.batch_execute(command).await?) };
+    shut_out(builder(None), config, Some(cause), mend).await
+}
+
+/// Gets from a server that accepts connections and never answers, until it forwards them to
+/// another.
 async fn silence(config: &Config) -> Result<bool, Failure> {
     let listener = TcpListener::bind("127.0.0.1:0").await?;
-    let port = listener.local_addr()?.port();
+    let mut silent = Config::new();
+    silent
+        .host("127.0.0.1")
+        .port(listener.local_addr()?.port())
+        .user(config.get_user().unwrap_or_default())
+        .dbname(config.get_dbname().unwrap_or_default());
+    let server = config.get_ports().first().copied().unwrap_or(5432);
+    let forwards = Arc::new(AtomicBool::new(false));
+    let flag = forwards.clone();
     tokio::spawn(async move {
         let mut kept = Vec::new();
-        while let Ok(accepted) = listener.accept().await {
-            kept.push(accepted);
+        while let Ok((mut accepted, _)) = listener.accept().await {
+            if !flag.load(SeqCst) {
+                kept.push(accepted);
+                continue;
+            }
+            tokio::spawn(async move {
+                let mut server = TcpStream::connect(("127.0.0.1", server)).await?;
+                copy_bidirectional(&mut accepted, &mut server).await
+            });
         }
     });
-    let mut silent = Config::new();
-    silent.host("127.0.0.1").port(port).user("tester");
-    silent.application_name(config.get_application_name().unwrap_or_default());
-    let pool = builder(None)
-        .connect_timeout(Duration::from_millis(200))
-        .build_unchecked(database(&silent));
-    let start = Instant::now();
-    let is_late = matches!(pool.get().await, Err(RunError::TimedOut));
-    let in_time = start.elapsed() < PATIENCE + SLACK;
-    let failed = pool.state().statistics.connections_failed;
-    println!("silent: {failed} attempts timed out");
-    Ok(is_late && in_time && failed > 1)
+    let mend = async {
+        forwards.store(true, SeqCst);
+        Ok(())
+    };
+    let builder = builder(None).connect_timeout(Duration::from_millis(200));
+    shut_out(builder, &silent, None, mend).await
 }
 
 #[tokio::main(worker_threads = 4)]
 async fn main() -> Result<ExitCode, Failure> {
     let arguments: Vec<String> = env::args().collect();
-    let [_, server] = &arguments[..] else {
-        return Err("argument: CONNECTION".into());
+    let [_, server, killing, starting] = &arguments[..] else {
+        return Err("arguments: CONNECTION KILL START".into());
     };
     let mut config: Config = server.parse()?;
     let admin = open(config.clone().application_name("admin")).await?;
@@ -196,19 +263,31 @@ async fn main() -> Result<ExitCode, Failure> {
 
     let mut checks = Vec::new();
     for (limit, fails) in [(None, true), (Some(Duration::from_millis(200)), false)] {
-        let (met, state) = freeze(&admin, &config, limit).await?;
+        let (met, counts, is_balanced) = freeze(&admin, &config, limit).await?;
         println!("frozen, test_timeout {limit:?}: {met:?}");
         let in_time = met.longest < PATIENCE + SLACK;
         let fails_alike = (met.failed > 0) == fails && met.failed_late == 0;
         checks.push(("each get ended in time", in_time));
         checks.push(("gets failed until their first timeout at most", fails_alike));
         checks.push(("gets were served", met.served > 100));
-        checks.push(("connections are accounted for", balances(&state)));
-        let timed_out = state.statistics.checks_timed_out >= u64::from(CONNECTIONS);
+        checks.push(("connections are accounted for", is_balanced));
+        let timed_out = counts.checks_timed_out >= u64::from(CONNECTIONS);
         checks.push(("each frozen connection was found by a check", timed_out));
     }
-    checks.push(("a refused role is reported", refuse(&admin, &config).await?));
+    let newcomer = config.clone().user("newcomer").clone();
+    let create = "CREATE ROLE newcomer LOGIN";
+    let times_out = refuse(&admin, &newcomer, "newcomer", create).await?;
+    checks.push(("a refused role is reported", times_out));
+    let create = "CREATE ROLE guarded LOGIN PASSWORD 'right'";
+    admin.batch_execute(create).await?;
+    let guarded = config.clone().user("guarded").password("wrong").clone();
+    let cause = "password authentication failed";
+    let change = "ALTER ROLE guarded PASSWORD 'wrong'";
+    let times_out = refuse(&admin, &guarded, cause, change).await?;
+    checks.push(("a refused password is reported", times_out));
     checks.push(("a silent server holds no get", silence(&config).await?));
+    let is_served = kill(&config, killing, starting).await?;
+    checks.push(("a killed server is used again", is_served));
     for (name, holds) in &checks {
         println!("{} {name}", if *holds { "yes:" } else { "NO: " });
     }
