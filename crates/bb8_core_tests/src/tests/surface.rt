@@ -93,8 +93,9 @@ fn text_of_refused_memory(rt: HostRuntime) -> Result<(), Fail> {
 }
 
 /// A state has one count of what its steps are lent: with a second one, in which a step could look
-/// unseen, it would be larger.
+/// unseen, it would be larger. The last three are a `Duration` of the settings, two numbers that
+/// tell what is closed when it comes back, and two counters.
 #[test]
 fn state_has_one_count(rt: HostRuntime) {
-    assert_equal(&rt, size_of::<PoolInternals<u64>>(), 568);
+    assert_equal(&rt, size_of::<PoolInternals<u64>>(), 568 + 16 + 16 + 16);
 }

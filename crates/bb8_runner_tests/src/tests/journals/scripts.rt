@@ -67,12 +67,12 @@ const OWN: [(&str, &str, &str); 5] = [
     (
         "max_size=2 check=off",
         "0 add\n0 add\n0 begin\n0 try 0\n1 retire\n2 add\n3 return 0\n4 reap\n",
-        "connections 1 idle 1 started 1 direct 1 waited 0 timed_out 0 cancelled 0 wait_us 0 created 0 broken 0 invalid 0 lifetime 2 idle_timeout 0",
+        "connections 1 idle 1 started 1 direct 1 waited 0 timed_out 0 cancelled 0 wait_us 0 created 0 broken 0 invalid 0 lifetime 0 idle_timeout 0 retired 2",
     ),
     (
         "max_size=1 check=off lifetime=1",
         "0 add\n0 begin\n0 try 0\n0 begin\n0 try 1\n0 detach 0\n0 detach 0\n0 return 0\n0 try 1\n",
-        "connections 0 idle 0 started 2 direct 1 waited 0 timed_out 0 cancelled 0 wait_us 0 created 0 broken 0 invalid 0 lifetime 0 idle_timeout 0",
+        "connections 0 idle 0 started 2 direct 1 waited 0 timed_out 0 cancelled 0 wait_us 0 created 0 broken 0 invalid 0 lifetime 0 idle_timeout 0 detached 1",
     ),
     (
         "max_size=2 check=off",
