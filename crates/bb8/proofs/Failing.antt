@@ -119,7 +119,7 @@ module _ {G L M S Z K R C E N V A : Type 0} {manager : ManagerOf M C E N V} {d :
         → replenishing.AfterOpened (tasks_home shared) timeout retry approval at (opener shared) step x next x'
         → IsBy x' × Told Known next.answer
     opens (Ok (opened.Entered notified)) x x' next is a = (still x x' a.2 is, known Known Entered next a.0 tt)
-    opens (Ok (opened.Late c)) x x' next is (x1, dropped, a) = (still x1 x' a.2 (still x x1 dropped is), known Known Late next a.0 tt)
+    opens (Ok (opened.Late c)) x x' next is (x1, dropped, (grant, x2, asked, a)) = (still x2 x' a.2 (ap (λ r. r.now) asked.4 ∙ still x x1 dropped is), known Known Late next a.0 tt)
     opens (Err c) x x' next is (x1, dropped, a) = (still x1 x' a.2 (still x x1 dropped is), known Known GivenBack next a.0 tt)
 
     prepares : (answer : Poll (Result (Unit {0}) E)) (tries : Tries) (c0 c : C) (a0 a : A) (x x' : Scope shared) (next : ReplenishStep C N A E) → IsBy x

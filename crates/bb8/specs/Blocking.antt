@@ -1,4 +1,4 @@
--- What callers see of a get for which a thread waits, and of one that is served at once or not at
+-- What callers see of a get that blocks its thread, and of one that is served at once or not at
 -- all.
 use Rattle.std.specs.Prelude.{◌≡◌, ℕ, Option, Some, None, Result, Ok, Err, ⊤}
 use Rattle.std.specs.Arc.{arc_value}
@@ -16,7 +16,7 @@ use Rattle.bb8.specs.declared.pool.PooledConnection.{PooledConnection}
 use Rattle.bb8.specs.Gets.{Guards}
 use Rattle.bb8.specs.Handles.{IsHandleOf}
 
--- a guard is made of what was taken, where something was
+-- a guard is made of a taken connection, if there is one
 abbrev pub MakesSome : {A B : Type 0} → (A → B → Type 0) → Option A → Option B → Type 0
 MakesSome Makes (Some a) (Some b) = Makes a b
 MakesSome Makes None None = ⊤
@@ -24,7 +24,7 @@ MakesSome Makes (Some a) None = ⊥
 MakesSome Makes None (Some b) = ⊥
 
 module _ {G L M S Z K R C E N V A : Type 0} {m : ManagerOf M C E N V} {d : DebugOf E} {s : SinkOf S E} {z : CustomizerOf Z C E A} {k : ClockOf K} {l : PartsOf L} where
-  -- a thread waited for a get with this time: a new get was polled until it answered
+  -- a thread blocked on a get with this timeout: a new get was polled until it resolved
   abbrev pub WaitsForGet : ℕ → Pool G L M S Z K R C E N V A m d s z k l → Result (PooledConnection G L M S Z K R C E N V A m d s z k l) (RunError E) → Type 0
   WaitsForGet timeout pool out =
       (given : Result (Taken C (Part L)) (RunError E)) × OwnWaits (arc_value pool.shared) timeout given
@@ -36,13 +36,13 @@ module _ {G L M S Z K R C E N V A : Type 0} {m : ManagerOf M C E N V} {d : Debug
       (given : Result (Option (Taken C (Part L))) (RunError E)) × OwnTakesNow (arc_value pool.shared) given
       × MakesGuard (MakesSome (Guards (arc_value pool.shared))) given out
 
-  -- what was given to a get that has a handle: a guard takes the handle along, and with an error it
+  -- the result for a get with its own handle: the handle moves into the guard; after an error it
   -- leaves
   abbrev pub EndsOwned : BareHandle G L M S Z K R C E N V A m d s z k l → Result (Taken C (Part L)) (RunError E) → Result (OwnedConnection G L M S Z K R C E N V A m d s z k l) (RunError E) → Type 0
   EndsOwned holding (Ok taken) out = out ≡ Ok (record { holding = holding; taken = taken })
   EndsOwned holding (Err e) out = (out ≡ Err e) × OwnLeaves (arc_value holding.shared)
 
-  -- a thread waited for a get with a handle of its own, which was made first, or refused
+  -- a thread blocked on a get with its own handle, which was made first, or refused
   abbrev pub WaitsHolding : Result (BareHandle G L M S Z K R C E N V A m d s z k l) (RunError E) → Result (OwnedConnection G L M S Z K R C E N V A m d s z k l) (RunError E) → Type 0
   WaitsHolding (Err e) out = out ≡ Err e
   WaitsHolding (Ok holding) out =

@@ -1,4 +1,4 @@
--- What callers see of a driver: what it begins with, its turns, and a run of turns.
+-- What callers see of a driver: its beginning, its turns, and a run of turns.
 use Rattle.std.specs.Prelude.{◌≡◌, ℕ, ◌+◌, ◌-◌, ◌^◌, max, min, Bool, true, false, Option, Some, None}
 use Rattle.std.specs.Arc.{arc_value}
 use Rattle.bb8_types.specs.declared.api.moments.Moment.{Moment}
@@ -20,19 +20,30 @@ use Rattle.bb8.specs.declared.driver.Driven.{Driven}
 use Rattle.bb8.specs.declared.pool.Pool.{Pool}
 use Rattle.bb8.specs.Pools.{made_in, settings_in}
 
--- one turn more, up to the greatest number that is counted
+-- one more turn; the count saturates
 abbrev pub one_more : ℕ → ℕ
 one_more n = min (n + 1) (2 ^ 64 - 1)
 
 -- How long a driver's thread sleeps after a turn at a moment, in nanoseconds: until something is
--- due, a millisecond at least, and no longer than so long.
+-- due, at least a millisecond, and at most `longest`.
 abbrev pub driver_rest : Option Moment → ℕ → ℕ → ℕ
 driver_rest (Some due) now longest = min (max (due.0 - now) 1000000) longest
 driver_rest None now longest = longest
 
--- What is told of a run of turns after so many: a turn that ended is the last one; after any other
--- one the gate is asked, and where it does not pause the run stops. Else the thread sleeps, unless
--- the bell has rung since it was counted, and the next turn follows.
+-- A thread counts the drivers' signals, reads the clock, and sleeps until the next signal, no longer
+-- than until something is due, and 50 milliseconds at most.
+abbrev pub RestsUntil : {C E V A X : Type 0} → OpenerOf X C E V A → RestsOf X → Option Moment → X → X → Type 0
+RestsUntil {X = X} opener rests due x x' =
+    (rings : ℕ) × (x1 : X) × rests.counts x Sleeping rings x1
+    × ((at : Moment) × (x2 : X) × opener.tells x1 at x2 × rests.sleeps x2 Sleeping rings (driver_rest due at.0 50000000) x')
+
+-- the same, whenever something is due
+abbrev pub RestsBriefly : {C E V A X : Type 0} → OpenerOf X C E V A → RestsOf X → X → X → Type 0
+RestsBriefly opener rests x x' = (due : Option Moment) × RestsUntil opener rests due x x'
+
+-- The result of a run of turns after this many. A turn that ended is the last one. After any other
+-- turn the gate is asked, and may stop the run; otherwise the thread sleeps, unless the signal was
+-- notified since it was counted, and the next turn follows.
 pub data Runs {T P : Type 0} (turns : T → ℕ → Moment → Turn → T → Type 0) (pauses : P → Bool → P → Type 0)
     (sleeps : ℕ → Moment → T → T → Type 0) : T → P → ℕ → Driven → T → Type 0 where
   ends : (t t' : T) (rings : ℕ) (at : Moment) (g : P) (n : ℕ) (turn : Turn) (d : Driven) → turns t rings at turn t' → turn.ended ≡ true
@@ -43,21 +54,22 @@ pub data Runs {T P : Type 0} (turns : T → ℕ → Moment → Turn → T → Ty
       → turn.ended ≡ false → pauses g true g' → sleeps rings at t' t'' → Runs turns pauses sleeps t'' g' (one_more n) d last
       → Runs turns pauses sleeps t g n d last
 
--- the rings of the drivers' bell are counted, the clock is read, and a turn made at that moment
+-- the notifications of the drivers' signal are counted, the clock is read, and a turn is made at
+-- that moment
 abbrev pub TurnsOnce : {C E V A X : Type 0} → HomeOf X C → OpenerOf X C E V A → RestsOf X → ℕ → Bool → Turning C V A × X → ℕ → Moment → Turn
     → Turning C V A × X → Type 0
 TurnsOnce {X = X} home opener rests timeout retry before rings at turn after =
     (x1 : X) × (x2 : X) × rests.counts before.1 Sleeping rings x1 × opener.tells x1 at x2
     × DriverTurns home opener timeout retry at before.0 x2 turn after.0 after.1
 
--- the thread sleeps by that bell until something is due, and no longer than some bound; that it is
--- the gate's no clause says
+-- the thread sleeps on that signal until something is due, and no longer than some bound; no clause
+-- says that it is the gate's
 abbrev pub SleepsOnce : {C V A X : Type 0} → RestsOf X → ℕ → Moment → Turning C V A × X → Turning C V A × X → Type 0
 SleepsOnce rests rings at before after =
     (longest : ℕ) × rests.sleeps before.1 Sleeping rings (driver_rest (driver_due before.0) at.0 longest) after.1
     × (after.0 ≡ before.0)
 
--- a run of such turns on a pool, which the handles share
+-- a run of such turns on a pool, given what its handles share
 module _ {G L M S Z K R C E N V A : Type 0} {m : ManagerOf M C E N V} {d : DebugOf E} {s : SinkOf S E} {z : CustomizerOf Z C E A} {k : ClockOf K} {l : PartsOf L}
     (shared : Shared G L M S Z K R C E N V A m d s z k l) where
   abbrev pub OwnRuns : {P : Type 0} → (P → Bool → P → Type 0) → Turning C N A → P → Driven → Type 0
@@ -71,8 +83,8 @@ module _ {G L M S Z K R C E N V A : Type 0} {m : ManagerOf M C E N V} {d : Debug
   abbrev pub has_ended : Driver G L M S Z K R C E N V A m d s z k l → Bool
   has_ended driver = is_ended driver.turning
 
-  -- the driver is of that pool, and made no turn yet; the ticks of its reaper count from the moment
-  -- at which the pool was made
+  -- the driver belongs to that pool and has made no turn yet; the ticks of its reaper count from
+  -- the moment at which the pool was made
   abbrev pub IsDriverOf : Driver G L M S Z K R C E N V A m d s z k l → Pool G L M S Z K R C E N V A m d s z k l → Type 0
   IsDriverOf driver pool = (arc_value driver.shared ≡ arc_value pool.shared) × DriverBegins (settings_in pool) (made_in pool) driver.turning
 
@@ -86,6 +98,6 @@ module _ {G L M S Z K R C E N V A : Type 0} {m : ManagerOf M C E N V} {d : Debug
   TurnsDriverNow driver turn driver' =
       (at : Moment) × k.tells (arc_value driver.shared).clock at × TurnsDriver at driver turn driver'
 
-  -- a run of turns of a driver, each at a reading of the pool's clock
+  -- a run of a driver's turns, each at a reading of the pool's clock
   abbrev pub RunsDriver : {P : Type 0} → (P → Bool → P → Type 0) → Driver G L M S Z K R C E N V A m d s z k l → P → Driven → Type 0
   RunsDriver pauses driver gate d = OwnRuns (arc_value driver.shared) pauses driver.turning gate d

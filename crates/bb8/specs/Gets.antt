@@ -1,4 +1,4 @@
--- What callers see of a get: its polls, and what it answers at last.
+-- What callers see of a get: its polls, and its final result.
 use Rattle.std.specs.Prelude.{◌≡◌, Result}
 use Rattle.futures.specs.declared.task.Poll.{Poll}
 use Rattle.bb8_types.specs.declared.api.errors.RunError.{RunError}
@@ -13,11 +13,11 @@ use Rattle.bb8_lock.specs.Words.{ManagerOf, DebugOf, SinkOf, CustomizerOf, Clock
 use Rattle.bb8.specs.Pools.{stage_of}
 
 module _ {G L M S Z K R C E N V A : Type 0} {m : ManagerOf M C E N V} {d : DebugOf E} {s : SinkOf S E} {z : CustomizerOf Z C E A} {k : ClockOf K} {l : PartsOf L} where
-  -- the guard, which is of that pool, has the connection that was served, and its part
+  -- the guard belongs to that pool, and has the served connection and its permit
   abbrev pub Guards : Shared G L M S Z K R C E N V A m d s z k l → Taken C (Part L) → PooledConnection G L M S Z K R C E N V A m d s z k l → Type 0
   Guards shared served guard = (guard.shared.now ≡ shared) × (guard.taken ≡ served)
 
-  -- a poll of the get: where it stood, what it answers, and where it stands then
+  -- a poll of the get: its stage before it, its result, and its stage after it
   abbrev pub PollsGet : GetFuture G L M S Z K R C E N V A m d s z k l → Poll (Result (PooledConnection G L M S Z K R C E N V A m d s z k l) (RunError E))
       → GetFuture G L M S Z K R C E N V A m d s z k l → Type 0
   PollsGet future answer after =
@@ -25,13 +25,13 @@ module _ {G L M S Z K R C E N V A : Type 0} {m : ManagerOf M C E N V} {d : Debug
       × OwnPolls future.shared.now (stage_of future) given (stage_of after)
       × MakesPoll (Guards future.shared.now) given answer
 
-  -- what the get may answer at last
+  -- the final results that the get may have
   abbrev pub GivesAtLast : GetFuture G L M S Z K R C E N V A m d s z k l → Result (PooledConnection G L M S Z K R C E N V A m d s z k l) (RunError E) → Type 0
   GivesAtLast future out =
       (given : Result (Taken C (Part L)) (RunError E))
       × OwnGives future.shared.now (stage_of future) given
       × MakesGuard (Guards future.shared.now) given out
 
-  -- the get is let go: given up as cancelled, where it began and was not answered
+  -- the get is cancelled, if it began and has not resolved
   abbrev pub CancelsGet : GetFuture G L M S Z K R C E N V A m d s z k l → Type 0
   CancelsGet future = OwnCancels future.shared.now (stage_of future)

@@ -1,5 +1,5 @@
--- What callers see of a list of guards: the connections that its guards hold, in order, how many
--- they are, how many they may be, and what its drop does.
+-- What callers see of a list of guards: its connections in order, its length and greatest length,
+-- and its drop.
 use Rattle.std.specs.Prelude.{◌≡◌, ℕ, List, vec_len}
 use Rattle.std.specs.Arc.{arc_value}
 use Rattle.std.specs.List.{AllZip}
@@ -18,11 +18,11 @@ module _ {G L M S Z K R C E N V A : Type 0} {m : ManagerOf M C E N V} {d : Debug
   abbrev pub connection_of : PooledConnection G L M S Z K R C E N V A m d s z k l → C
   connection_of guard = guard.taken.connection
 
-  -- where the connection of a guard goes back to, and its key
+  -- where the connection of a guard is returned to, and its key
   abbrev pub ticket_of : PooledConnection G L M S Z K R C E N V A m d s z k l → Ticket G L M S Z K R C E N V A m d s z k l
   ticket_of guard = record { shared = guard.shared; key = guard.taken.key }
 
-  -- a guard with this connection in place of its own
+  -- a guard with this connection instead of its own
   abbrev pub with_connection : PooledConnection G L M S Z K R C E N V A m d s z k l → C → PooledConnection G L M S Z K R C E N V A m d s z k l
   with_connection guard connection = record guard { taken = record guard.taken { connection = connection } }
 
@@ -30,35 +30,35 @@ module _ {G L M S Z K R C E N V A : Type 0} {m : ManagerOf M C E N V} {d : Debug
   abbrev pub connections_in : Guards G L M S Z K R C E N V A m d s z k l → List C
   connections_in guards = guards.connections.items
 
-  -- where they go back to, and their keys
+  -- where the connections of a list are returned to, and their keys
   abbrev pub tickets_in : Guards G L M S Z K R C E N V A m d s z k l → List (Ticket G L M S Z K R C E N V A m d s z k l)
   tickets_in guards = guards.tickets.items
 
-  -- how many guards a list has
+  -- the number of guards in a list
   abbrev pub number_in : Guards G L M S Z K R C E N V A m d s z k l → ℕ
   number_in guards = vec_len guards.connections
 
-  -- how many guards a list may have: as many as its pool may have connections
+  -- the greatest number of guards in a list: its pool's `max_size`
   abbrev pub most_in : Guards G L M S Z K R C E N V A m d s z k l → ℕ
   most_in guards = guards.shared.now.config.max_size
 
-  -- a list with this connection in place of the one of an index
+  -- a list with this connection instead of the one at an index
   abbrev pub with_connection_at : Guards G L M S Z K R C E N V A m d s z k l → ℕ → C → Guards G L M S Z K R C E N V A m d s z k l
   with_connection_at guards index connection = record guards { connections = with_item guards.connections index connection }
 
-  -- the list is of guards of this pool
+  -- the list has guards of this pool
   abbrev pub IsListOf : Guards G L M S Z K R C E N V A m d s z k l → Pool G L M S Z K R C E N V A m d s z k l → Type 0
   IsListOf guards pool = guards.shared.now ≡ arc_value pool.shared
 
-  -- both lists are of one pool
+  -- both lists belong to one pool
   abbrev pub AreOfOne : Guards G L M S Z K R C E N V A m d s z k l → Guards G L M S Z K R C E N V A m d s z k l → Type 0
   AreOfOne guards others = guards.shared.now ≡ others.shared.now
 
-  -- this connection comes back where this ticket says, under its key
+  -- this connection is returned where this ticket says, under its key
   abbrev pub ReturnsBy : Ticket G L M S Z K R C E N V A m d s z k l → C → Type 0
   ReturnsBy ticket connection =
       (part : Part L) × OwnReturns ticket.shared.now (record { key = ticket.key; connection = connection; part = part })
 
-  -- each guard of a list gives its connection back
+  -- each guard of a list returns its connection
   abbrev pub ReturnsEach : Guards G L M S Z K R C E N V A m d s z k l → Type 0
   ReturnsEach guards = AllZip ReturnsBy (tickets_in guards) (connections_in guards)

@@ -1,4 +1,4 @@
--- The handles of a pool: how one more is made.
+-- How a pool's handle joins.
 use Rattle.std.specs.Prelude.{◌≡◌, Result, Ok, Err, ⊤}
 use Rattle.std.specs.Arc.{arc_value}
 use Rattle.bb8_types.specs.declared.api.errors.RunError.{RunError}
@@ -14,23 +14,22 @@ use Rattle.bb8_lock.specs.declared.locked.Parts.{Ghosts as PartsOf}
 use Rattle.bb8_lock.specs.Words.{ManagerOf, DebugOf, SinkOf, CustomizerOf, ClockOf}
 
 module _ {G L M S Z K R C E N V A : Type 0} {m : ManagerOf M C E N V} {d : DebugOf E} {s : SinkOf S E} {z : CustomizerOf Z C E A} {k : ClockOf K} {l : PartsOf L} where
-  -- What is told of the making of a handle: one more is of the same pool. Where as many are alive
-  -- as may be, or none is, it is refused.
+  -- The result of a join: the new handle belongs to the same pool. If the greatest number of
+  -- handles is alive, or none, it is refused.
   abbrev pub IsToldHandle : Shared G L M S Z K R C E N V A m d s z k l → Joining Handle → Result (BareHandle G L M S Z K R C E N V A m d s z k l) (RunError E) → Type 0
   IsToldHandle shared (joining.Joined handle) (Ok holding) = arc_value holding.shared ≡ shared
   IsToldHandle shared joining.Exhausted (Err errors.Exhausted) = ⊤
   IsToldHandle shared joining.Unfit (Err errors.Exhausted) = ⊤
   IsToldHandle shared _ _ = ⊥
 
-  -- The making of one more handle: some state of the pool's settings counts it or refuses it, at a
-  -- reading of the clock, and the caller is told so. Of one that is refused for want of memory
-  -- nothing is said here.
+  -- The making of one more handle: at a clock reading some state with the pool's settings counts or
+  -- refuses it, and the caller gets that result. Nothing is said of a refusal of memory.
   abbrev pub IsHandleOf : Shared G L M S Z K R C E N V A m d s z k l → Result (BareHandle G L M S Z K R C E N V A m d s z k l) (RunError E) → Type 0
   IsHandleOf shared (Err errors.Memory) = ⊤
   IsHandleOf shared result =
       (answer : Joining Handle) × OwnJoins shared answer × IsToldHandle shared answer result
 
-  -- the making of one more handle, as the caller has it
+  -- the making of one more handle, as the caller sees it
   abbrev pub IsClone : Pool G L M S Z K R C E N V A m d s z k l → Result (Pool G L M S Z K R C E N V A m d s z k l) (RunError E) → Type 0
   IsClone pool (Ok clone) = IsHandleOf (arc_value pool.shared) (Ok (record { shared = clone.shared; handle = clone.handle }))
   IsClone pool (Err e) = IsHandleOf (arc_value pool.shared) (Err e)

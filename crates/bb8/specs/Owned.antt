@@ -1,4 +1,4 @@
--- The polls of a get that has a handle of its own.
+-- The polls of a get with its own handle.
 use Rattle.std.specs.Prelude.{◌≡◌, Option, Some, None, Result, Ok, Err, ⊤}
 use Rattle.std.specs.Arc.{arc_value}
 use Rattle.futures.specs.declared.task.Poll.{Poll}
@@ -21,32 +21,31 @@ use Rattle.bb8_lock.specs.declared.locked.Parts.{Ghosts as PartsOf}
 use Rattle.bb8_lock.specs.Words.{ManagerOf, DebugOf, SinkOf, CustomizerOf, ClockOf}
 
 module _ {G L M S Z K R C E N V A : Type 0} {m : ManagerOf M C E N V} {d : DebugOf E} {s : SinkOf S E} {z : CustomizerOf Z C E A} {k : ClockOf K} {l : PartsOf L} where
-  -- a guard with this connection in place of its own
+  -- a guard with this connection instead of its own
   abbrev pub with_connection : OwnedConnection G L M S Z K R C E N V A m d s z k l → C → OwnedConnection G L M S Z K R C E N V A m d s z k l
   with_connection guard connection = record guard { taken = record guard.taken { connection = connection } }
 
-  -- a get with a handle of its own is let go: it is given up, where it began and was not answered,
-  -- and then the handle leaves
+  -- a get with its own handle is cancelled: the get first, if it began and has not resolved, and
+  -- then the handle leaves
   abbrev pub CancelsOwned : Option (OwnedStage G L M S Z K R C E N V A m d s z k l) → Type 0
   CancelsOwned None = ⊤
   CancelsOwned (Some (Refused e)) = ⊤
   CancelsOwned (Some (Open holding get)) = OwnCancelsAndLeaves (arc_value holding.shared) get.stage
 
-  -- how a get with a handle of its own begins: the handle is made, or refused
+  -- how a get with its own handle begins: the handle is made, or refused
   abbrev pub BeginsOwned : Pool G L M S Z K R C E N V A m d s z k l → Option (OwnedStage G L M S Z K R C E N V A m d s z k l) → Type 0
   BeginsOwned pool None = ⊥
   BeginsOwned pool (Some (Refused e)) = IsHandleOf (arc_value pool.shared) (Err e)
   BeginsOwned pool (Some (Open holding get)) = IsHandleOf (arc_value pool.shared) (Ok holding) × (get.stage ≡ Fresh)
 
-  -- After a poll on the pool's lock. A guard takes the handle along; with an error the handle
-  -- leaves.
+  -- After a poll on the pool's lock: the handle moves into the guard; after an error it leaves.
   abbrev pub AfterOwned : BareHandle G L M S Z K R C E N V A m d s z k l → GetState C V (Part L) → Poll (Result (Taken C (Part L)) (RunError E))
       → Poll (Result (OwnedConnection G L M S Z K R C E N V A m d s z k l) (RunError E)) → Option (OwnedStage G L M S Z K R C E N V A m d s z k l) → Type 0
   AfterOwned holding get Pending r after = (r ≡ Pending) × (after ≡ Some (Open holding get))
   AfterOwned holding get (Ready (Err e)) r after = (r ≡ Ready (Err e)) × (after ≡ None) × OwnLeaves (arc_value holding.shared)
   AfterOwned holding get (Ready (Ok taken)) r after = (r ≡ Ready (Ok (record { holding = holding; taken = taken }))) × (after ≡ None)
 
-  -- a poll of the get: what stood before its answer, what it answers, and what stands then
+  -- a poll of the get: its stage before it, its result, and its stage after it
   abbrev pub OwnedPolls : Option (OwnedStage G L M S Z K R C E N V A m d s z k l) → Poll (Result (OwnedConnection G L M S Z K R C E N V A m d s z k l) (RunError E))
       → Option (OwnedStage G L M S Z K R C E N V A m d s z k l) → Type 0
   OwnedPolls None r after = (r ≡ Pending) × (after ≡ None)
@@ -56,11 +55,11 @@ module _ {G L M S Z K R C E N V A : Type 0} {m : ManagerOf M C E N V} {d : Debug
       × OwnPolls (arc_value holding.shared) get.stage given polled.stage
       × AfterOwned holding polled given r after
 
-  -- the same, of the future
+  -- as `OwnedPolls`, of the future
   abbrev pub PollsOwned : GetOwnedFuture G L M S Z K R C E N V A m d s z k l → Poll (Result (OwnedConnection G L M S Z K R C E N V A m d s z k l) (RunError E))
       → GetOwnedFuture G L M S Z K R C E N V A m d s z k l → Type 0
   PollsOwned future r after = OwnedPolls future.stage r after.stage
 
-  -- what the get may answer at last
+  -- the final results that the get may have
   abbrev pub GivesOwned : GetOwnedFuture G L M S Z K R C E N V A m d s z k l → Result (OwnedConnection G L M S Z K R C E N V A m d s z k l) (RunError E) → Type 0
   GivesOwned future out = Answers OwnedPolls future.stage out

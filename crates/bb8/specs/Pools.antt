@@ -19,7 +19,7 @@ module _ {G L M S Z K R C E N V A : Type 0} {m : ManagerOf M C E N V} {d : Debug
   abbrev pub manager_in : Pool G L M S Z K R C E N V A m d s z k l → M
   manager_in pool = (arc_value pool.shared).manager
 
-  -- where a get stands between its polls
+  -- the stage of a get between its polls
   abbrev pub stage_of : GetFuture G L M S Z K R C E N V A m d s z k l → Stage C V (Part L)
   stage_of future = future.get.stage
 
@@ -39,6 +39,6 @@ module _ {G L M S Z K R C E N V A : Type 0} {m : ManagerOf M C E N V} {d : Debug
   abbrev pub made_in : Pool G L M S Z K R C E N V A m d s z k l → Moment
   made_in pool = (arc_value pool.shared).made
 
-  -- the get is of that pool
+  -- the get belongs to that pool
   abbrev pub IsOf : GetFuture G L M S Z K R C E N V A m d s z k l → Pool G L M S Z K R C E N V A m d s z k l → Type 0
   IsOf future pool = future.shared.now ≡ arc_value pool.shared

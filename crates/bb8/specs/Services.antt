@@ -1,4 +1,4 @@
--- What a service is run over, and what comes of it.
+-- The input and the result of a service.
 use Rattle.std.specs.Prelude.{◌≡◌, ℕ, ◌<◌, ◌⊎◌, List, length, slice_index_or, Result, Ok, Err}
 use Rattle.bb8_types.specs.Settings.{Settings}
 use Rattle.bb8_lock.specs.declared.locked.Parts.{Ghosts as PartsOf}
@@ -15,7 +15,7 @@ pub record Basis (M S Z K : Type 0) : Type 0 where
   pub customizer : Z
   pub clock : K
 
--- a builder, a manager and a clock as such
+-- the basis of a builder, a manager and a clock
 abbrev pub basis : {M S Z K : Type 0} → Choices S Z → M → K → Basis M S Z K
 basis builder manager clock =
     record { settings = builder.settings; manager = manager; sink = builder.error_sink; customizer = builder.connection_customizer; clock = clock }
@@ -26,13 +26,13 @@ module _ {G L M S Z K R C E N V A : Type 0} {m : ManagerOf M C E N V} {d : Debug
   basis_of pool =
       record { settings = settings_in pool; manager = manager_in pool; sink = sink_in pool; customizer = customizer_in pool; clock = clock_in pool }
 
--- so many threads told this, each of them something that the thread of its number may tell
+-- the results of this many threads, each one a result that the thread of its number may have
 pub record EachTold {T : Type 0} (Tells : ℕ → T → Type 0) (threads : ℕ) (told : List T) : Type 0 where
   pub all : length told ≡ threads
   pub each : (thread : ℕ) (x : T) → thread < threads → Tells thread (slice_index_or told thread x)
 
--- What may come of a service over a pool of that basis, in so many threads: it stopped as it began,
--- or it began, so many threads ran, and it ended with what they told.
+-- The possible results of a service over a pool of that basis, in this many threads: `begin`
+-- stopped it; or it began, this many threads ran, and it ended with their results.
 abbrev pub IsOutcome : {B T O : Type 0} → (B → Result (Unit {0}) O → Type 0) → (B → ℕ → T → Type 0) → (B → List T → O → Type 0) → B → ℕ → O → Type 0
 IsOutcome {T = T} Begins Tells Ends basis threads outcome =
     Begins basis (Err outcome)

@@ -1,4 +1,4 @@
-//! A pool for one thread: a small program's, or a test's.
+//! A pool for one thread, for small programs and tests.
 ghost use Rattle.std.specs.Prelude.{◌≡◌, ⊤, IfOk, true};
 ghost use Rattle.bb8_types.specs.Settings.{is_lawful};
 ghost use Rattle.bb8_lock.specs.Parts.{IsBlankOf};
@@ -12,12 +12,12 @@ use std::marker::Brand;
 use std::sync::Wait;
 use std::sync::ledger::Blank;
 
-/// What one thread does with a pool and a driver of it, by whatever parts `L` the connections that
-/// are out are counted. `Builder::with_pool` runs it.
+/// What one thread does with a pool and its driver, for any permits `L`. `Builder::with_pool` runs
+/// it.
 ///
 /// As in a `Service`, its method calls the pool by `PoolCalls` and the driver by `DriverCalls`. Its
-/// ghost members are relations between what it was given and what it answers, with what the pool
-/// was built of; one that is left out allows everything.
+/// ghost members relate its arguments and its result, with what the pool was built of. One that is
+/// left out allows everything.
 pub trait User<
     M: ManageConnection,
     S: ErrorSink<M::Error>,
@@ -25,16 +25,16 @@ pub trait User<
     K: Clock,
     R: Locks,
 > {
-    /// What comes of it.
+    /// The result.
     type Outcome;
 
-    // Holds of a user, and what each pool was built of that it may be run over.
+    // Holds of a user and the `Basis` of each pool that it may run over.
     ghost suits: { Self → Basis M S Z K → Type 0 } = { λ _ _. ⊤ };
 
-    // Holds of a user, what its pool was built of, and each outcome that it may have.
+    // Holds of a user, the `Basis` of its pool, and each outcome that it may have.
     ghost comes_to: { Self → Basis M S Z K → Self.Outcome → Type 0 } = { λ _ _ _. ⊤ };
 
-    /// What is done with the pool, which has no connection yet, and its driver, which made no turn.
+    /// Runs over the pool, which has no connection yet, and its driver, which has made no turn.
     fn run<L: PoolParts>(
         &self,
         pool: &Pool<M, S, Z, K, R, L>,
@@ -45,7 +45,7 @@ pub trait User<
         ensures { comes_to self.now (basis_of pool.now) result };
 }
 
-/// Runs a user over a pool whose parts are named.
+/// Runs a user over a pool with these permits.
 fn run_with<
     M: ManageConnection,
     S: ErrorSink<M::Error>,
@@ -77,12 +77,12 @@ impl<
     S: ErrorSink<M::Error>,
     Z: CustomizeConnection<M::Connection, M::Error>,
 > Builder<M, S, Z> {
-    /// Builds a pool as `build_unchecked` does, with parts of its own, and runs a user over it and
-    /// a driver of it, in this thread. Then both are dropped.
+    /// Builds a pool as `build_unchecked` does, with its own permits, and runs a user over it and a
+    /// driver of it, in this thread. Then both are dropped.
     ///
-    /// No thread is started and nothing is waited for: a connection is opened where the user turns
-    /// the driver. For small programs, and for tests on a `SetClock`. It fails only where the pool
-    /// or its driver was refused memory; then the user did not run.
+    /// It starts no thread and waits for nothing: connections are opened when the user turns the
+    /// driver. It is for small programs, and for tests on a `SetClock`. It returns `Memory` only if
+    /// memory for the pool or its driver was refused; then the user did not run.
     pub fn with_pool<
         K: Clock,
         R: Wait + AllocGlobal + Send + Sync + Drop + 'static,

@@ -1,4 +1,4 @@
-//! How a pool is set up.
+//! The builder of a pool.
 ghost use Rattle.std.specs.Prelude.{◌≡◌, ◌<◌};
 ghost use Rattle.std.specs.Duration.{as_nanos};
 ghost use Rattle.std.specs.Option.{ForSome, option_map};
@@ -8,18 +8,18 @@ use bb8_core::api::{Config, NopCustomizer, NopErrorSink, QueueStrategy};
 use std::marker::{Model, PhantomData};
 use std::time::Duration;
 
-/// The settings of a pool that is to be built, with its error sink `S` and its customizer `Z`; `M`
-/// is the pool's manager.
+/// The settings of a pool to be built, with its error sink `S` and its customizer `Z`; `M` is the
+/// pool's manager.
 ///
-/// Each setter takes the builder and gives it back with that one setting changed, so calls stand in
-/// a chain. A setting that no call changed has its default. `Config::from(&builder)` tells the
-/// settings, and its `is_lawful` whether a pool can hold to them.
+/// Each setter takes the builder and returns it with that setting changed, so calls can be chained.
+/// A setting without a call has its default. `Config::from(&builder)` returns the settings, and its
+/// `is_lawful` whether a pool can satisfy them.
 ///
-/// As upstream, but that a value which upstream answers with a panic is here a condition on the
-/// caller, that options are taken plainly, that sink and customizer are type parameters in place of
-/// boxes, and that what manager, sink and customizer can do is asked for where a pool is built, and
-/// not at each call. Spans of time are whole nanoseconds of the pool's clock; one of more than
-/// 18,446,744,073,709,551,615 nanoseconds, some 584 years, is never over.
+/// As bb8, except that a value on which bb8 panics is a condition on the caller, that options are
+/// taken as `Option`, without `Into`, that sink and customizer are type parameters instead of
+/// boxes, and that bounds on manager, sink and customizer are on the building of a pool instead of
+/// on each call. Durations are whole nanoseconds of the pool's clock; one of more than
+/// 18,446,744,073,709,551,615 nanoseconds (some 584 years) never elapses.
 #[derive(Drop)]
 pub struct Builder<M, S = NopErrorSink, Z = NopCustomizer> {
     config: Config,
@@ -55,7 +55,7 @@ impl<M, S, Z> Builder<M, S, Z> {
 }
 
 impl<M, S, Z> Builder<M, S, Z> {
-    /// The settings, the error sink and the customizer.
+    /// Returns the settings, the error sink and the customizer.
     pub(crate) fn into_parts(self) -> (Config, S, Z)
         ensures settings { settings_of result.0 ≡ self.settings }
         ensures sink { result.1 ≡ self.error_sink }
@@ -74,15 +74,15 @@ impl<M, S, Z> Builder<M, S, Z> {
 impl<M> Default for Builder<M> {
     ghost is_default = { λ builder. builder.settings ≡ default_settings };
 
-    /// The settings at their defaults, as `Config::default` gives them, with a sink and a
-    /// customizer that do nothing. As upstream.
+    /// The settings at their defaults, as `Config::default` returns them, with a sink and a
+    /// customizer that do nothing. As bb8.
     fn default() -> Self {
         Builder::from_parts(Config::default(), NopErrorSink, NopCustomizer)
     }
 }
 
 impl<M> Builder<M> {
-    /// A builder with each setting at its default. As upstream.
+    /// Returns a builder with each setting at its default. As bb8.
     pub fn new() -> Self
         ensures { result.settings ≡ default_settings }
     {
@@ -91,10 +91,10 @@ impl<M> Builder<M> {
 }
 
 impl<M, S: Drop, Z: Drop> Builder<M, S, Z> {
-    /// How many connections and open approvals there are at most. 10 by default.
+    /// Sets the greatest number of connections plus open approvals. 10 by default.
     ///
-    /// Zero is refused by the condition, where upstream panics. A `min_idle` above it makes the
-    /// settings unlawful.
+    /// The condition refuses zero, on which bb8 panics. A greater `min_idle` makes the settings
+    /// unlawful.
     pub fn max_size(mut self, max_size: u32) -> Self
         requires { 0 < max_size }
         ensures { result ≡ record self { settings = record self.settings { max_size = max_size } } }
@@ -103,9 +103,10 @@ impl<M, S: Drop, Z: Drop> Builder<M, S, Z> {
         self
     }
 
-    /// How many idle connections the pool tries for: it opens new ones where fewer are idle or
-    /// being opened, as far as `max_size` allows, and so many are left idle whatever `idle_timeout`
-    /// says. None by default, which counts as 0. As upstream, but that its code leaves none for it.
+    /// Sets how many idle connections the pool tries to keep. It opens new ones while fewer are
+    /// idle or being opened, as far as `max_size` allows, and `idle_timeout` leaves this number
+    /// idle. None by default, which counts as 0. As bb8, except that bb8's `idle_timeout` closes
+    /// these, too.
     ///
     /// More than `max_size` makes the settings unlawful, whichever of the two was set first.
     pub fn min_idle(mut self, min_idle: Option<u32>) -> Self
@@ -115,8 +116,8 @@ impl<M, S: Drop, Z: Drop> Builder<M, S, Z> {
         self
     }
 
-    /// Whether an idle connection is checked by the manager's `is_valid` before it is handed out;
-    /// one that does not pass is closed. On by default. As upstream.
+    /// Sets whether an idle connection is checked by the manager's `is_valid` before it is handed
+    /// out; if the check fails, it is closed. On by default. As bb8.
     pub fn test_on_check_out(mut self, test_on_check_out: bool) -> Self
         ensures { result ≡ record self {
           settings =
@@ -127,14 +128,14 @@ impl<M, S: Drop, Z: Drop> Builder<M, S, Z> {
         self
     }
 
-    /// After how much idle time a connection is checked again: where `test_on_check_out` is on, one
-    /// that became idle less than `idle` ago is handed out unchecked. Zero by default, by which
-    /// each is checked; with the check off it is of no effect. Not in upstream.
+    /// Sets after how much idle time a connection is checked: with `test_on_check_out` on, one that
+    /// became idle less than `idle` ago is handed out unchecked. Zero by default, which checks
+    /// each. It has no effect with the check off. bb8 has no such setting.
     ///
     /// A connection becomes idle when it is opened or added, and each time it is returned. So a
-    /// connection that serves one get after another costs no check, and a few seconds save most of
-    /// them. A connection whose server went away meanwhile is then found at its first use, and not
-    /// by the check.
+    /// connection that serves one get after another costs no check, and a few seconds save most
+    /// checks. If its server goes away meanwhile, the connection is found broken at its first use
+    /// instead of by the check.
     pub fn test_on_check_out_after(mut self, idle: Duration) -> Self
         ensures { result ≡ record self {
           settings = record self.settings { test_after = as_nanos idle };
@@ -144,12 +145,12 @@ impl<M, S: Drop, Z: Drop> Builder<M, S, Z> {
         self
     }
 
-    /// How long a connection lives: one that is as old or older is closed at a reap if it is idle,
-    /// and otherwise when it comes back to the pool. 30 minutes by default. With None a connection
-    /// has no greatest age.
+    /// Sets how long a connection lives: at this age it is closed by the reaper if it is idle, and
+    /// otherwise when it is returned to the pool. 30 minutes by default. With None a connection has
+    /// no greatest age.
     ///
-    /// A limit of zero is refused by the condition, where upstream panics. With a limit, a
-    /// `reaper_rate` of zero makes the settings unlawful.
+    /// The condition refuses a limit of zero, on which bb8 panics. With a limit, a `reaper_rate` of
+    /// zero makes the settings unlawful.
     pub fn max_lifetime(mut self, max_lifetime: Option<Duration>) -> Self
         requires { ForSome max_lifetime (λ limit. 0 < as_nanos limit) }
         ensures { result ≡ record self {
@@ -161,14 +162,14 @@ impl<M, S: Drop, Z: Drop> Builder<M, S, Z> {
         self
     }
 
-    /// How long a connection stays idle: one that has been idle as long or longer is closed at a
-    /// reap, as long as more than `min_idle` are idle; the one that became idle first goes first,
-    /// by both strategies. 10 minutes by default. With None a connection may be idle for ever.
+    /// Sets how long a connection may be idle: after this time the reaper closes it, as long as
+    /// more than `min_idle` are idle. It closes the one that became idle first, with either queue
+    /// strategy. 10 minutes by default. With None a connection may be idle forever.
     ///
-    /// As upstream's text, and not as its code, which closes all of them. One that has reached
-    /// `max_lifetime`, too, is closed for that, and counts as such. A limit of zero is refused by
-    /// the condition, where upstream panics. With a limit, a `reaper_rate` of zero makes the
-    /// settings unlawful.
+    /// As bb8's documentation; bb8's code closes all of them. A connection that has also reached
+    /// `max_lifetime` is closed for that, and counts as such. The condition refuses a limit of
+    /// zero, on which bb8 panics. With a limit, a `reaper_rate` of zero makes the settings
+    /// unlawful.
     pub fn idle_timeout(mut self, idle_timeout: Option<Duration>) -> Self
         requires { ForSome idle_timeout (λ limit. 0 < as_nanos limit) }
         ensures { result ≡ record self {
@@ -180,11 +181,11 @@ impl<M, S: Drop, Z: Drop> Builder<M, S, Z> {
         self
     }
 
-    /// How long a get waits, from its first poll, before it answers `TimedOut`; and how long after
-    /// its first try a failed opening of a connection is still tried again. 30 seconds by default.
+    /// Sets how long a get waits, from its first poll, before it returns `TimedOut`; and how long
+    /// after its first try a failed connection attempt is still repeated. 30 seconds by default.
     ///
-    /// Zero is refused by the condition, where upstream panics. A get whose deadline would be past
-    /// the greatest moment of the clock never times out.
+    /// The condition refuses zero, on which bb8 panics. A get whose deadline would exceed the
+    /// clock's greatest moment never times out.
     pub fn connection_timeout(mut self, connection_timeout: Duration) -> Self
         requires { 0 < as_nanos connection_timeout }
         ensures { result ≡ record self {
@@ -196,12 +197,12 @@ impl<M, S: Drop, Z: Drop> Builder<M, S, Z> {
         self
     }
 
-    /// Whether an opening of a connection that failed is tried again, after waits that double from
-    /// 400 ms up to half of `connection_timeout`, until more than `connection_timeout` has passed
-    /// since its first try. On by default. As upstream.
+    /// Sets whether a failed connection attempt is repeated: after waits that double from 400 ms up
+    /// to half of `connection_timeout`, until more than `connection_timeout` has passed since its
+    /// first try. On by default. As bb8.
     ///
-    /// Where it is off, the first failure ends the opening. Off suits a program that knows by
-    /// itself that its server is down.
+    /// If it is off, the first failure ends the attempt. That suits a program that knows by itself
+    /// that its server is down.
     pub fn retry_connection(mut self, retry_connection: bool) -> Self
         ensures { result ≡ record self {
           settings =
@@ -212,12 +213,12 @@ impl<M, S: Drop, Z: Drop> Builder<M, S, Z> {
         self
     }
 
-    /// How far the ticks of the reaper are apart, at which idle connections that are too old or
-    /// have been idle too long are closed. 30 seconds by default. There are no ticks where neither
-    /// `max_lifetime` nor `idle_timeout` is set.
+    /// Sets the time between two ticks of a driver. At a tick it closes idle connections that
+    /// exceed `max_lifetime` or `idle_timeout`, if one of these is set, and approvals are granted
+    /// for waiters whose connection attempts were given up. 30 seconds by default.
     ///
-    /// Zero makes the settings unlawful where one of the two is set, where upstream panics;
-    /// otherwise it is of no effect. Upstream has this setting for its tests.
+    /// Zero makes the settings unlawful if one of the two is set; bb8 panics then. Otherwise there
+    /// are no ticks. bb8 has this setting for its tests.
     pub fn reaper_rate(mut self, reaper_rate: Duration) -> Self
         ensures { result ≡ record self {
           settings =
@@ -228,11 +229,11 @@ impl<M, S: Drop, Z: Drop> Builder<M, S, Z> {
         self
     }
 
-    /// Which idle connection is handed out first. `Fifo` by default. As upstream.
+    /// Sets which idle connection is handed out first. `Fifo` by default. As bb8.
     ///
     /// `Fifo` spreads the load over all connections, so that few become idle for long. `Lifo` uses
-    /// as few connections as it can, so that the others reach `idle_timeout`, and are closed down
-    /// to `min_idle`.
+    /// as few connections as it can, so that the others reach `idle_timeout` and are closed down to
+    /// `min_idle`.
     pub fn queue_strategy(mut self, queue_strategy: QueueStrategy) -> Self
         ensures { result ≡ record self {
           settings =
@@ -243,9 +244,9 @@ impl<M, S: Drop, Z: Drop> Builder<M, S, Z> {
         self
     }
 
-    /// Where errors go that no caller of the pool waits for; the sink that was set before is
-    /// dropped. `NopErrorSink` by default. As upstream, but that the sink's type becomes part of
-    /// the builder's.
+    /// Sets the sink of errors that no caller of the pool waits for; the previous sink is dropped.
+    /// `NopErrorSink` by default. As bb8, except that the sink's type becomes part of the
+    /// builder's.
     pub fn error_sink<T>(self, error_sink: T) -> Builder<M, T, Z>
         ensures { result ≡ record {
           settings = self.settings;
@@ -256,9 +257,9 @@ impl<M, S: Drop, Z: Drop> Builder<M, S, Z> {
         Builder::from_parts(self.config, error_sink, self.connection_customizer)
     }
 
-    /// What prepares each connection that the pool opens; the customizer that was set before is
-    /// dropped. `NopCustomizer` by default. As upstream, but that the customizer's type becomes
-    /// part of the builder's.
+    /// Sets the customizer, which prepares each connection that the pool opens; the previous one is
+    /// dropped. `NopCustomizer` by default. As bb8, except that the customizer's type becomes part
+    /// of the builder's.
     pub fn connection_customizer<T>(self, connection_customizer: T) -> Builder<M, S, T>
         ensures { result ≡ record {
           settings = self.settings;
@@ -273,7 +274,7 @@ impl<M, S: Drop, Z: Drop> Builder<M, S, Z> {
 impl<M, S, Z> From<&Builder<M, S, Z>> for Config {
     ghost from_gives = { λ builder config. settings_of config ≡ builder.now.settings };
 
-    /// The settings of a builder, without its sink and its customizer. As upstream.
+    /// Returns a builder's settings, without its sink and its customizer. As bb8.
     fn from(builder: &Builder<M, S, Z>) -> Config {
         builder.config
     }

@@ -1,10 +1,10 @@
-//! The building of a pool that has its first connections.
+//! The future of a pool that is being built, until it has its first connections.
 ghost use Rattle.std.specs.Prelude.{◌≡◌, true};
 ghost use Rattle.bb8_types.specs.Settings.{is_lawful};
 ghost use Rattle.bb8_lock.specs.Parts.{IsBlankOf};
 
 use crate::Builder;
-use crate::driver::rest;
+use crate::driver::rest_until;
 use crate::pool::{Cancel, Pool};
 use bb8_core::api::{
     Clock, CustomizeConnection, ErrorSink, ManageConnection, Memory, Moment, RunError,
@@ -19,9 +19,8 @@ use std::marker::PhantomData;
 use std::mem;
 use std::sync::ledger::Blank;
 use std::sync::{Arc, Wait};
-use std::time::Duration;
 
-/// What a pool is to be made of.
+/// The input of a build.
 #[derive(Drop)]
 pub(crate) struct Plan<G: Given, L: Parts> {
     pub builder: Builder<G::Manager, G::Sink, G::Customizer>,
@@ -34,16 +33,16 @@ pub(crate) struct Plan<G: Given, L: Parts> {
     ghost cut: { IsBlankOf blank builder.settings L.name L.parts L.settings },
 }
 
-/// The making of a pool, as a method of an impl, so that the poll of a future can call it.
+/// Makes a pool. (A trait because of *trait-for-threads*.)
 pub(crate) trait MakesPool {
     type Opened;
 
     type Made;
 
-    /// A pool, and what was granted for its first connections, claimed or not.
+    /// Returns a pool, and the grant for its first connections, claimed or not.
     fn open(self, claimed: bool) -> Self::Opened;
 
-    /// A pool, and a task for each of its first approvals.
+    /// Returns a pool, and a task for each of its first approvals.
     fn make(self) -> Self::Made;
 }
 
@@ -104,7 +103,7 @@ impl<G: Given<Runtime: Wait + AllocGlobal>, L: Parts> MakesPool for Plan<G, L> {
         }
     }
 
-    /// Where memory for the tasks is refused the pool is dropped.
+    /// If memory for the tasks is refused, the pool is dropped.
     fn make(self) -> Self::Made
         ensures { IfOk result (λ made. PoolIsMade self made.0 made.1) }
     {
@@ -117,20 +116,19 @@ impl<G: Given<Runtime: Wait + AllocGlobal>, L: Parts> MakesPool for Plan<G, L> {
     }
 }
 
-/// What `Builder::build` answers: the building of a pool that has its first connections. It does
-/// nothing until it is polled.
+/// The future that `Builder::build` returns: it builds a pool that has its first connections. It
+/// does nothing until it is polled.
 ///
-/// The first poll makes the pool at the clock's moment, with approvals for as many connections as
-/// `min_idle` asks for. Each poll, the first too, reads the clock and polls the opening of each
-/// connection that is not there yet, once and in the order of the approvals. An opening that failed
-/// is tried again where `retry_connection` is set, as long as `connection_timeout` allows; the
-/// error of each such try goes to the error sink. The first failure of a last try ends the
-/// building.
+/// The first poll makes the pool at the clock's moment, with approvals for `min_idle` connections.
+/// Each poll, also the first, reads the clock and polls each connection attempt that is in
+/// progress, once and in the order of the approvals. A failed attempt is repeated if
+/// `retry_connection` is set, as long as `connection_timeout` allows; the error of each such try
+/// goes to the error sink. The first attempt that fails for good ends the build.
 ///
-/// One that is pending asks to be polled again at once; `BuildingCalls::wait` sleeps between its
-/// polls. When it is dropped before its answer, its approvals are given back and its pool is
-/// dropped. Manager, customizer, sink and clock are called while the pool's lock is free.
-/// Upstream's is an async function.
+/// A pending poll asks to be polled again at once; `BuildingCalls::wait` sleeps between its polls.
+/// If the future is dropped before it resolves, its approvals are given back and its pool is
+/// dropped. Manager, customizer, sink and clock are called while the pool's lock is free. bb8's is
+/// an async function.
 pub struct Building<G: Given, L: Parts> {
     stage: BuildingStage<Plan<G, L>, Pool<G, L>, Tasks<G::Connection, G::Connecting, G::Acquiring>>,
 }
@@ -142,14 +140,13 @@ impl<
 > Builder<M, S, Z> {
     ghost use Rattle.bb8.specs.Buildings.{IsPlanned};
 
-    /// A pool that has its first connections, as many as `min_idle` asks for, once the building is
-    /// polled to its end.
+    /// Builds a pool that has its first connections, `min_idle` of them, once the future resolves.
     ///
-    /// As upstream, but that the clock and the runtime are handed in, with a blank of `max_size`
-    /// parts, and that memory can be refused. It answers `User` with the error of the first opening
-    /// that failed for good, and `Memory` where memory was refused, for the pool, for one of its
-    /// first approvals or for their tasks; then all is dropped. The settings have to be lawful,
-    /// where upstream panics.
+    /// As bb8, except that the clock and the runtime are passed in, with a blank of `max_size`
+    /// permits, and that memory can be refused. It resolves to `User` with the error of the first
+    /// attempt that failed for good, and to `Memory` if memory was refused for the pool, for one of
+    /// its first approvals or for their tasks; then everything is dropped. The settings must be
+    /// lawful; bb8 panics otherwise.
     pub fn build<K: Clock, R: Locks, L: Parts>(
         self,
         manager: M,
@@ -176,11 +173,11 @@ impl<
     }
 }
 
-/// The end of a building, as a method of an impl, so that a drop and a cancelling can call it.
+/// Ends a build. (A trait because of *trait-for-threads*.)
 trait EndsStage {
     type BuildingStage;
 
-    /// Gives the approvals of its tasks back, and drops all.
+    /// Gives the approvals of its tasks back, and drops everything.
     fn end(stage: Self::BuildingStage);
 }
 
@@ -228,14 +225,13 @@ impl<G: Given, L: Parts> Drop for Building<G, L> {
     }
 }
 
-/// A round of a pool's first tasks, as a method of an impl, so that the poll of a future can call
-/// it.
+/// Polls a pool's first tasks. (A trait because of *trait-for-threads*.)
 trait OpensFirst {
     type Tasks;
 
     type BuildingStep;
 
-    /// A round, and what the building answers then.
+    /// Polls each task once, and returns the result of the build's poll.
     fn sweep(self, tasks: Self::Tasks) -> Self::BuildingStep;
 }
 
@@ -274,28 +270,28 @@ impl<G: Given, L: Parts> OpensFirst for Pool<G, L> {
     }
 }
 
-/// A poll of a building, as a method of an impl, so that the poll of a future can call it.
+/// Polls a build. (A trait because of *trait-for-threads*.)
 trait Builds {
     type BuildingStage;
 
     type BuildingStep;
 
-    /// What the building answers at last.
+    /// The result of the build.
     type Answer;
 
-    /// One poll of a building that stands here.
+    /// Polls a build in this stage once.
     fn advance(stage: Self::BuildingStage) -> Self::BuildingStep;
 
-    /// One poll.
+    /// Polls once.
     fn step(&mut self) -> Poll<Self::Answer>;
 
-    /// Sleeps until an opening is to be polled, and 50 milliseconds at most; a millisecond where
-    /// one was pending.
+    /// Sleeps until an attempt is due, and at most 50 milliseconds; a millisecond if one is
+    /// pending.
     fn rest(&self);
 }
 
 impl<G: Given<Runtime: Wait + AllocGlobal>, L: Parts> Builds for Building<G, L> {
-    ghost use Rattle.bb8.specs.Buildings.{PollsBuilding, PollsStage};
+    ghost use Rattle.bb8.specs.Buildings.{PollsBuilding, PollsStage, RestsAt};
 
     type BuildingStage = BuildingStage<
         Plan<G, L>,
@@ -342,36 +338,35 @@ impl<G: Given<Runtime: Wait + AllocGlobal>, L: Parts> Builds for Building<G, L> 
         answer
     }
 
-    fn rest(&self) {
+    fn rest(&self)
+        ensures { RestsAt self.now.stage }
+    {
         if let BuildingStage::Opening(pool, tasks) = &self.stage {
             let shared = &*pool.shared;
-            let bell = &shared.locked.drivers;
             let due = tasks.next_due(None);
-            let most = rest(due, shared.clock.now(), Duration::from_millis(50));
-            bell.sleep(&shared.rt, bell.rings(), most);
+            rest_until::<G::Connection, G::Error, _>(&mut shared.scope(), due);
         }
     }
 }
 
-/// The calls of a building beside its polls, as methods of an impl, so that code that a thread runs
-/// can make them.
+/// The calls of a build besides its polls. (A trait because of *trait-for-threads*.)
 pub trait BuildingCalls {
-    /// What it answers at last.
+    /// The result of the build.
     type Answer;
 
-    /// When a poll next has something to do: once an opening has slept after a try that failed; or
-    /// at once, which is a moment that has passed, before the first poll and while an opening is
-    /// pending. None is never.
+    /// Returns when a poll next has something to do: after the sleep that follows a failed try; or
+    /// at once, as a moment in the past, before the first poll and while an attempt is pending.
+    /// None is never.
     fn next_due(&self) -> Option<Moment>;
 
-    /// Polls it until it answers. Between two polls the pool's clock is read once more, and the
-    /// thread sleeps until something is due, and 50 milliseconds at most; where an opening was
-    /// pending, a millisecond.
+    /// Polls the build until it resolves. Between two polls it reads the pool's clock again, and
+    /// the thread sleeps until an attempt is due, and at most 50 milliseconds; a millisecond if one
+    /// is pending.
     fn wait(self, rt: &impl Wait) -> Self::Answer;
 }
 
 impl<G: Given<Runtime: Wait + AllocGlobal>, L: Parts> BuildingCalls for Building<G, L> {
-    ghost use Rattle.bb8.specs.Buildings.{building_due, GivesBuilding};
+    ghost use Rattle.bb8.specs.Buildings.{building_due, GivesBuilding, WaitsBuilding};
 
     type Answer = Result<Pool<G, L>, RunError<G::Error>>;
 
@@ -386,7 +381,8 @@ impl<G: Given<Runtime: Wait + AllocGlobal>, L: Parts> BuildingCalls for Building
     }
 
     fn wait(self, rt: &impl Wait) -> Self::Answer
-        ensures { GivesBuilding self result }
+        ensures gives { GivesBuilding self result }
+        ensures rests { WaitsBuilding self result }
     {
         let mut building = self;
         for _ in rt.forever() {
@@ -409,7 +405,7 @@ impl<G: Given<Runtime: Wait + AllocGlobal>, L: Parts> Future for Building<G, L> 
 
     ghost gives = { λ building out. GivesBuilding building out };
 
-    /// One poll. It is pending while openings go on, and after its answer.
+    /// Polls once. It is pending while attempts go on, and after it resolved.
     fn poll(&mut self, cx: &mut Context<'_>) -> Poll<Self::Output>
         ensures table { PollsBuilding self.old result self.new }
         ensures value { IfReady result (λ out. GivesBuilding self.old out) }

@@ -1,4 +1,4 @@
-//! A connection that the pool opens and does not count.
+//! The future of a connection that the pool opens and does not count.
 ghost use Rattle.std.specs.Prelude.{◌≡◌};
 
 use crate::pool::Cancel;
@@ -9,10 +9,10 @@ use futures::Future;
 use futures::task::{Context, Poll};
 use std::mem;
 
-/// What `Pool::dedicated_connection` answers: an opening that does nothing until it is polled.
+/// The future that `Pool::dedicated_connection` returns. It does nothing until it is polled.
 ///
-/// Each poll reads the pool's clock, and none takes the pool's lock. One that is pending asks to be
-/// polled again at once. When it is dropped before its answer, what it holds is dropped. Upstream's
+/// Each poll reads the pool's clock; none acquires the pool's lock. A pending one asks to be polled
+/// again at once. If it is dropped before it resolves, its attempt or connection is dropped. bb8's
 /// is an async function.
 pub struct DedicatedFuture<'a, G: Given, L: Parts> {
     pub(crate) shared: &'a Shared<G, L>,
@@ -55,8 +55,8 @@ impl<'a, G: Given, L: Parts> Future for DedicatedFuture<'a, G, L> {
 
     ghost gives = { λ future out. GivesDedicated future out };
 
-    /// One poll at the greatest reading of the clock so far. It is pending while the manager or the
-    /// customizer is, and after its answer.
+    /// Polls once, at the latest clock reading so far. It is pending while the manager or the
+    /// customizer is, and after it resolved.
     fn poll(&mut self, cx: &mut Context<'_>) -> Poll<Self::Output>
         ensures table { PollsDedicated self.old result self.new }
         ensures pool { self.new.shared.now ≡ self.old.shared.now }

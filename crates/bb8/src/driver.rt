@@ -1,8 +1,8 @@
-//! A driver of a pool, and a thread that makes its turns.
+//! The driver of a pool, and a thread that runs it.
 ghost use Rattle.std.specs.Prelude.{◌≡◌, ℕ, ⊤, Bool, true, IfOk};
 ghost use Rattle.std.specs.Arc.{arc_value};
 ghost use Rattle.std.specs.Duration.{as_nanos};
-ghost use Rattle.bb8.specs.Drivers.{driver_rest, has_ended, IsDriverOf, Runs, SleepsOnce, TurnsOnce};
+ghost use Rattle.bb8.specs.Drivers.{driver_rest, has_ended, IsDriverOf, RestsBriefly, RestsUntil, Runs, SleepsOnce, TurnsOnce};
 
 use crate::jobs::{Job, NoThread, start};
 use crate::pool::Pool;
@@ -17,49 +17,49 @@ use std::sync::{Arc, Wait};
 use std::thread::{JoinHandle, Threads};
 use std::time::Duration;
 
-/// Opens the connections that a pool approved, and reaps those that idled or lived too long, at its
-/// turns. Upstream spawns a task for each opening, and one that reaps.
+/// Makes a pool's approved connection attempts, and reaps connections that exceed `idle_timeout` or
+/// `max_lifetime`, in its turns. bb8 spawns a task for each attempt, and one that reaps.
 ///
-/// A driver holds no handle of its pool, and a pool may have several. Whoever has one makes its
-/// turns (`turn`), or hands it to a thread (`drive`). It has a reaper where `max_lifetime` or
-/// `idle_timeout` is set, whose ticks count from the moment at which the pool was made.
+/// A driver holds no handle of its pool, and a pool may have several drivers. Call its turns
+/// (`turn`), or move it to a thread (`drive`). Its ticks are a `reaper_rate` apart, and count from
+/// the moment at which the pool was made. It reaps at them if `max_lifetime` or `idle_timeout` is
+/// set.
 ///
-/// When it is dropped it reads the pool's clock, and the approvals of its tasks are given back
-/// under the pool's lock, for which it may wait.
+/// When it is dropped, it reads the pool's clock and gives the approvals of its tasks back under
+/// the pool's lock, for which it may wait.
 pub struct Driver<G: Given, L: Parts> {
     shared: Arc<Shared<G, L>, Global>,
     turning: Turning<G::Connection, G::Connecting, G::Acquiring>,
 }
 
-/// What a thread asks between two turns of its driver.
+/// Decides, between two turns of a driver, whether it goes on.
 pub trait Gate {
-    // Holds of a gate, what a pause may answer, and the gate then.
+    // Holds of a gate, the result of a pause, and the gate after it.
     ghost pauses: { Self → Bool → Self → Type 0 } = { λ _ _ _. ⊤ };
 
-    /// Waits as long as it sees fit, and says whether one more turn is to be made.
+    /// Waits as long as it likes, and returns whether to make another turn.
     fn pause(&mut self) -> bool
         ensures { pauses self.old result self.new };
 
-    /// How long the thread may then sleep, where nothing wakes it: 50 milliseconds, unless the
-    /// implementer says otherwise. A pool whose clock is not the machine's, or goes otherwise than
-    /// it, may ask for less.
+    /// Returns how long the thread may then sleep if nothing wakes it; 50 milliseconds by default.
+    /// Return less if the pool's clock is not the machine's, or runs at another speed.
     fn longest(&self) -> Duration {
         Duration::from_millis(50)
     }
 }
 
-/// What a run of turns came to.
+/// The result of a run of turns.
 #[derive(Clone, Copy, Debug, PartialEq, Eq)]
 pub struct Driven {
-    /// How many turns were made; it stays at the greatest u64.
+    /// The number of turns; it saturates.
     pub turns: u64,
-    /// Whether the last turn ended, as no handle of the pool was alive.
+    /// Whether the last turn ended because no handle of the pool was alive.
     pub ended: bool,
 }
 
 impl<G: Given<Runtime: Wait + AllocGlobal>, L: Parts> Driver<G, L> {
-    /// A driver of the pool, which made no turn yet. It fails only where sharing the pool was
-    /// refused memory.
+    /// Returns a driver of the pool that has made no turn yet. It returns `Memory` only if memory
+    /// for sharing the pool was refused.
     pub fn new(pool: &Pool<G, L>) -> Result<Self, Memory>
         ensures { IfOk result (λ driver. IsDriverOf driver pool.now) }
     {
@@ -69,12 +69,12 @@ impl<G: Given<Runtime: Wait + AllocGlobal>, L: Parts> Driver<G, L> {
     }
 }
 
-/// How long a driver's thread sleeps at least, in nanoseconds, unless its gate asks for less.
+/// The shortest sleep of a driver's thread in nanoseconds, unless its gate asks for less.
 const SHORTEST_REST: u64 = 1_000_000;
 
-/// How long a driver's thread may sleep after a turn at a moment: until something is due, and no
-/// longer than that. Where that has passed, as it has for each task whose opening was pending, it
-/// is a millisecond.
+/// Returns how long a driver's thread may sleep after a turn at a moment: until something is due,
+/// and at most `longest`. It is a millisecond if that is in the past, as for each pending
+/// connection attempt.
 pub(crate) fn rest(due: Option<Moment>, at: Moment, longest: Duration) -> Duration
     ensures { as_nanos result ≡ driver_rest due at.0 (as_nanos longest) }
 {
@@ -89,27 +89,48 @@ pub(crate) fn rest(due: Option<Moment>, at: Moment, longest: Duration) -> Durati
     }
 }
 
+/// Sleeps until the next signal for drivers, no longer than until something is due: a millisecond
+/// if it is overdue, and 50 milliseconds at most.
+pub(crate) fn rest_until<C, E, X: Opener<C, E> + Rests>(pool: &mut X, due: Option<Moment>)
+    ensures until { RestsUntil X.Opener X.Rests due pool.old pool.new }
+    ensures brief { RestsBriefly X.Opener X.Rests pool.old pool.new }
+{
+    let rings = pool.rings(Sleeper::Driver);
+    let at = pool.now();
+    pool.sleep(
+        Sleeper::Driver,
+        rings,
+        rest(due, at, Duration::from_millis(50)),
+    );
+}
+
 /// The turns of a driver.
 pub trait DriverCalls {
-    /// One turn at a moment, in nanoseconds of the pool's clock; for each step it may wait for the
-    /// pool's lock.
+    /// Makes one turn at a moment, in nanoseconds of the pool's clock. It may wait for the pool's
+    /// lock at each step.
     ///
-    /// It polls the reaper first. After a reap, new approvals are granted for waiting gets whose
-    /// openings were given up. Then it claims the pool's approvals, in the order of their numbers,
-    /// until none is unclaimed or there is no memory for the task of one more, whose approval then
-    /// stays unclaimed. Then it polls the opening of each approval that it holds once, in the order
-    /// of the claims; those that end are gone, and the error of each try that failed goes to the
-    /// error sink. Where a claim finds no handle alive it polls none, drops what it opens, gives
-    /// all approvals back, and has ended, as at each later turn.
+    /// 1. At a tick it reaps, if an age has a limit. Then approvals are granted for waiters whose
+    /// connection attempts were given up.
+    ///
+    /// 2. It claims the pool's approvals in the order of their numbers, until none is unclaimed or
+    /// memory for another task is refused; then that approval stays unclaimed.
+    ///
+    /// 3. It polls the attempt of each approval that it holds once, in the order of the claims, and
+    /// removes those that end. The error of each failed try goes to the error sink. If an attempt
+    /// opens a connection that was retired meanwhile, the connection is dropped, and approvals are
+    /// granted for waiters, which the next turn claims.
+    ///
+    /// If a claim finds no handle alive, it polls none, drops its attempts, gives all approvals
+    /// back and has ended, as in each later turn.
     fn turn(&mut self, moment: Moment) -> Turn;
 
-    /// One turn at the moment that the pool's clock tells, which is read first.
+    /// Reads the pool's clock, and makes one turn at that moment.
     fn turn_now(&mut self) -> Turn;
 
-    /// When a turn next has something to do, by what the driver holds: at its reaper's next tick,
-    /// or earlier where an opening is to be polled, be it once it has slept after a try that
-    /// failed, or at once; that is a moment that has passed. None is never. Approvals that were
-    /// granted since the last turn, and a pool without a handle, are not looked for.
+    /// Returns when a turn next has something to do, as far as the driver knows: at its next tick,
+    /// or earlier if an attempt is due, after its sleep or at once (a moment in the past). None is
+    /// never. It does not look for approvals granted since the last turn, nor whether a handle is
+    /// alive.
     fn next_due(&self) -> Option<Moment>;
 }
 
@@ -147,10 +168,10 @@ impl<G: Given<Runtime: Wait>, L: Parts> DriverCalls for Driver<G, L> {
 impl<G: Given<Runtime: Wait>, L: Parts> Driver<G, L> {
     ghost use Rattle.bb8.specs.Drivers.{RunsDriver};
 
-    /// Makes turns, each at a reading of the pool's clock, until one has ended or the gate, which
-    /// is asked after each other one, does not pause. Before the next one the thread sleeps until
-    /// an approval is granted, no handle is alive, or something is due, and no longer than the gate
-    /// lets it; where an opening was pending, a millisecond. Then the driver is dropped.
+    /// Makes turns, each at a reading of the pool's clock, until one has ended or the gate, asked
+    /// after each other turn, stops it. Before the next turn the thread sleeps until an approval is
+    /// granted, no handle is alive, or something is due, and at most as long as the gate allows; if
+    /// an attempt is pending, a millisecond. Then the driver is dropped.
     pub fn run<P: Gate + Drop>(self, gate: P) -> Driven
         ensures { RunsDriver P.pauses self gate result }
     {
@@ -160,8 +181,8 @@ impl<G: Given<Runtime: Wait>, L: Parts> Driver<G, L> {
     }
 }
 
-/// Turns, each at a reading of the clock, until one has ended or the gate does not pause. Between
-/// two turns the thread sleeps until the bell is rung, or something is due.
+/// Makes turns, each at a clock reading, until one has ended or the gate stops it. Between two
+/// turns the thread sleeps until the drivers' signal is notified, or something is due.
 fn run<
     C,
     V,
@@ -197,9 +218,9 @@ fn run<
     unreachable!()
 }
 
-/// Runs of a driver's turns, as a method of an impl, so that a thread can make one.
+/// Runs a driver's turns. (A trait because of *trait-for-threads*.)
 trait RunsTurns {
-    /// Turns until one has ended or the gate does not pause.
+    /// Makes turns until one has ended or the gate does not pause.
     fn run_turns<P: Gate>(&mut self, gate: &mut P) -> Driven;
 }
 
@@ -251,8 +272,8 @@ impl<G: Given<Runtime: Wait>, L: Parts, P: Gate + Drop> Job for Gated<Driver<G, 
     }
 }
 
-/// Runs a driver in a thread of its own, as `Driver::run` does. Where no thread can be made the
-/// driver is dropped. The pool's own runtime needs no threads.
+/// Runs a driver in its own thread, as `Driver::run` does. If no thread can be started, the driver
+/// is dropped. The pool's own runtime needs no threads.
 pub fn drive<
     M: ManageConnection,
     S: ErrorSink<M::Error>,

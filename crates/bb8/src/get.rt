@@ -1,4 +1,4 @@
-//! A get of a pool: its future, over the polls of `bb8_gets`.
+//! A pool's get: its future, over the polls of `bb8_gets`.
 
 mod future;
 

@@ -1,5 +1,5 @@
-//! The pool's types by manager, error sink, customizer, clock, runtime and parts. In their modules
-//! the first five are one parameter.
+//! The pool's types by manager, error sink, customizer, clock, runtime and permits. In their
+//! modules the first five are one parameter.
 use crate::{MachineClock, building, dedicated, driver, get, guards, owned, pool};
 use bb8_core::api::{NopCustomizer, NopErrorSink};
 use bb8_lock::These;
@@ -7,8 +7,8 @@ use bb8_lock::These;
 /// A handle of a pool, `pool::Pool`.
 pub type Pool<M, S, Z, K, R, L> = pool::Pool<These<M, S, Z, K, R>, L>;
 
-/// A handle of a pool without sink and customizer, on the machine's clock: of what `Builder::new()`
-/// and `serve` make of `MachineClock`.
+/// A handle of a pool without sink and customizer, on the machine's clock, as `Builder::new()` and
+/// `serve` make it with a `MachineClock`.
 pub type PlainPool<M, R, L> = Pool<M, NopErrorSink, NopCustomizer, MachineClock<R>, R, L>;
 
 /// A guard, `pool::PooledConnection`.
@@ -18,23 +18,23 @@ pub type PooledConnection<'a, M, S, Z, K, R, L> = pool::PooledConnection<
     L,
 >;
 
-/// A get, `get::GetFuture`.
+/// The future of a get, `get::GetFuture`.
 pub type GetFuture<'a, M, S, Z, K, R, L> = get::GetFuture<'a, These<M, S, Z, K, R>, L>;
 
-/// A get with a handle of its own, `owned::GetOwnedFuture`.
+/// The future of a get with its own handle, `owned::GetOwnedFuture`.
 pub type GetOwnedFuture<M, S, Z, K, R, L> = owned::GetOwnedFuture<These<M, S, Z, K, R>, L>;
 
-/// A guard with a handle of its own, `owned::OwnedConnection`.
+/// A guard with its own handle, `owned::OwnedConnection`.
 pub type OwnedConnection<M, S, Z, K, R, L> = owned::OwnedConnection<These<M, S, Z, K, R>, L>;
 
-/// The opening of a connection that the pool does not count, `dedicated::DedicatedFuture`.
+/// The future of a connection that the pool does not count, `dedicated::DedicatedFuture`.
 pub type DedicatedFuture<'a, M, S, Z, K, R, L> = dedicated::DedicatedFuture<
     'a,
     These<M, S, Z, K, R>,
     L,
 >;
 
-/// The building of a pool, `building::Building`.
+/// The future of a pool that is being built, `building::Building`.
 pub type Building<M, S, Z, K, R, L> = building::Building<These<M, S, Z, K, R>, L>;
 
 /// A driver, `driver::Driver`.

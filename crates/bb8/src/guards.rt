@@ -1,4 +1,4 @@
-//! A list of guards of one pool, of which there are never more than the pool's `max_size`.
+//! A list of guards of one pool.
 ghost use Rattle.std.specs.Prelude.{◌≡◌, ◌+◌, ◌<◌, ◌≤◌, ◌↔◌, true, [], ◌∷◌, ◌++◌, take, drop, slice_index_or, vec_len, OnOk, IfErr, IfSome, IfNone, IsSome};
 
 use crate::pool::{IntoParts, Pool, PooledConnection};
@@ -8,16 +8,15 @@ use bb8_lock::{Gathered, Given, Parts, Shared};
 use std::alloc::Global;
 use std::marker::PhantomData;
 
-/// Where a connection of a list goes back to, and its key.
+/// Where a connection of a list is returned to, and its key.
 #[derive(Drop)]
 struct Ticket<'a, G: Given, L: Parts> {
     shared: &'a Shared<G, L>,
     key: Key,
 }
 
-/// A list of guards of one pool, which has at most as many as the pool's `max_size`: its guards'
-/// parts say so. When it is dropped it drops each of its guards, for which it may wait for the
-/// lock.
+/// A list of guards of one pool. It has at most `max_size` guards, as their permits prove. Its drop
+/// drops each guard, for which it may wait for the lock.
 pub struct Guards<'a, G: Given, L: Parts> {
     shared: &'a Shared<G, L>,
     tickets: Vec<Ticket<'a, G, L>>,
@@ -33,30 +32,30 @@ pub trait GuardsCalls: Sized {
     /// A handle of the pool, by reference.
     type Pool;
 
-    /// A guard of it.
+    /// A guard of the pool.
     type Guard;
 
-    /// What a guard holds.
+    /// A guard's connection.
     type Connection;
 
-    /// An empty list of guards of this pool. It takes no memory.
+    /// Returns an empty list of guards of this pool. It allocates nothing.
     fn new(alloc: Global, pool: Self::Pool) -> Self;
 
-    /// How many guards there are.
+    /// Returns the number of guards.
     fn len(&self) -> usize;
 
     /// Whether there is no guard.
     fn is_empty(&self) -> bool;
 
-    /// Adds a guard at the end. It comes back, and the list is as before, where memory for it was
-    /// refused.
+    /// Appends a guard. If memory for it is refused, returns the guard and leaves the list as it
+    /// was.
     fn push(&mut self, guard: Self::Guard) -> Result<(), Self::Guard>;
 
-    /// Takes the guard of an index out; the ones behind it move up. None where there is no such
+    /// Removes and returns the guard at an index; those behind it move up. None if there is no such
     /// index.
     fn remove(&mut self, index: usize) -> Option<Self::Guard>;
 
-    /// The connection of the guard of an index. None where there is no such index.
+    /// Returns the connection of the guard at an index. None if there is no such index.
     fn get_mut(&mut self, index: usize) -> Option<&mut Self::Connection>;
 }
 

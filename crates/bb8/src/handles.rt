@@ -1,4 +1,4 @@
-//! The handles of a pool: how one more is made, and how one leaves.
+//! The handles of a pool: how one joins, and how one leaves.
 ghost use Rattle.std.specs.Arc.{arc_value};
 
 use crate::pool::Pool;
@@ -8,14 +8,14 @@ use bb8_lock::{Given, Handle, OpensScope, Parts, Shared, join};
 use std::alloc::Global;
 use std::sync::Arc;
 
-/// A handle beside what it shares with the others of its pool. It cannot be dropped, so whoever
-/// lets it go has to say how.
+/// A handle with what it shares with the others of its pool. It cannot be dropped, so each place
+/// that gives one up says how.
 pub(crate) struct BareHandle<G: Given, L: Parts> {
     pub shared: Arc<Shared<G, L>, Global>,
     pub handle: Handle,
 }
 
-/// The making of a handle, as a method of an impl, so that methods of others can call it.
+/// Makes one more handle. (A trait because of *trait-for-threads*.)
 pub(crate) trait Joins {
     type Joined;
 

@@ -1,4 +1,4 @@
-//! Threads of one's own.
+//! Threads that run a job over a pool.
 ghost use Rattle.std.specs.Prelude.{ℕ, ⊤, IfOk};
 ghost use Rattle.bb8.specs.Services.{EachTold};
 
@@ -6,33 +6,32 @@ use bb8_core::api::Memory;
 use std::thread;
 use std::thread::{JoinHandle, Threads, map_indices};
 
-/// What a thread does: a closure that calls a pool gets no proof in a thread of its own, a job
-/// does.
+/// What a thread does: a job instead of a closure, because of *closure-in-a-thread*.
 ///
 /// Its method calls the pool by `PoolCalls`, as those of a `Service` do. The implementer chooses
 /// its ghost members, and one that is left out allows everything.
 pub trait Job {
-    /// What it tells at its end.
+    /// The result of the thread.
     type Told;
 
     // Holds of each job that may be run.
     ghost is_ready: { Self → Type 0 } = { λ _. ⊤ };
 
-    // Holds of a job, the number of its thread, and each thing that it may tell.
+    // Holds of a job, the number of its thread, and each result that it may return.
     ghost tells: { Self → ℕ → Self.Told → Type 0 } = { λ _ _ _. ⊤ };
 
-    /// Does it in the thread of this number.
+    /// Does the job in the thread of this number.
     fn run(self, thread: usize) -> Self::Told
         requires { is_ready self }
         ensures { tells self thread result };
 }
 
-/// No thread could be made, and what it was to do was dropped.
+/// No thread could be started, and its job was dropped.
 #[derive(Clone, Copy, Debug, PartialEq, Eq)]
 pub struct NoThread;
 
-/// Starts a job in a thread of its own, to which this number is given. Where no thread can be made
-/// the job is dropped.
+/// Starts a job in its own thread, with this number. If no thread can be started, the job is
+/// dropped.
 pub fn start<R: Threads, J: Job + Send + Drop + 'static>(
     threads: &R,
     number: usize,
@@ -48,9 +47,9 @@ where
     }
 }
 
-/// Does a job so many times, with the numbers from 0 on, each in a thread of its own where one can
-/// be made, and gives what they tell, in their order. It fails only where that finds no memory;
-/// then some may have run.
+/// Runs a job `threads` times, with the numbers from 0 on, each in its own thread if one can be
+/// started, and returns their results in order. Returns `Memory` only if memory for the results is
+/// refused; then some may have run.
 pub fn in_threads<R: Threads + AllocGlobal + Sync, J: Job + Copy + Sync>(
     rt: &R,
     threads: usize,

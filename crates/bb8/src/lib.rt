@@ -1,12 +1,12 @@
-//! A pool of connections: its builder, and all that `bb8_core` gives to a user. What is bb8's of
-//! Rust ("upstream") says so; all else has no counterpart there.
+//! A connection pool: its builder, and all of `bb8_core` that users need. What Rust's bb8 has, too,
+//! is marked "as bb8"; all else has no counterpart there.
 //!
 //! A program whose threads share a pool has three parts: a manager, which opens and checks
-//! connections (`ManageConnection`); a service, which says what is done before the threads run, in
+//! connections (`ManageConnection`); a service, which says what is done before its threads run, in
 //! each, and after them (`Service`); and a `main`, which builds the pool and runs the service over
-//! it (`Builder::serve`). No proof file belongs to them. `./new NAME` at the top of the repository
-//! makes such a program, with its line of `crates.txt`, `NAME: bb8 bb8_blocking`.
-//! `crates/bb8_service` is one over the kit's `sqlite`. Its `main` has
+//! it (`Builder::serve`). It needs no proof file. `./new NAME` at the top of the repository creates
+//! such a program, with its line of `crates.txt`, `NAME: bb8 bb8_blocking`. `crates/bb8_service` is
+//! one over the toolchain's `sqlite`. Its `main` has
 //!
 //! ```text
 //! let outcome = Builder::new()
@@ -21,9 +21,9 @@
 //! let mut guard = pool.get_blocking().ok()?;
 //! ```
 //!
-//! The calls are in scope by `use bb8::{Cancel, Detach, Gets, PoolCalls}`. A program for one
-//! thread, or a test, is a `User` of `Builder::with_pool`. Each call, and a pool whose threads and
-//! parts are in one's own hands: `docs/CALLING.md`.
+//! `use bb8::{Cancel, Detach, Gets, PoolCalls}` brings the calls into scope. A program for one
+//! thread, or a test, is a `User` of `Builder::with_pool`. `docs/CALLING.md` has each call, and how
+//! to hold a pool's threads and permits in your own hands.
 #![tactic(auto)]
 
 mod alone;

@@ -1,12 +1,12 @@
-//! The machine: its clock, and the runtime that a program hands in.
+//! The machine's clock, and the runtime that a program passes in.
 use bb8_core::api::{Clock, Moment};
 use std::random::RandomSource;
 use std::sync::Wait;
 use std::time::Clock as MachineTime;
 
-/// What a program asks of the runtime that it hands to its pool, in one name: that it waits, tells
-/// the time, draws random bits for `block_on`, allocates, and may be copied and sent. `main`'s
-/// runtime is one. `Builder::serve` asks for `Threads` besides.
+/// What a program asks of the runtime that it passes to its pool, under one name: it waits, tells
+/// the time, draws random bits for `block_on`, allocates, and may be copied and sent. The runtime
+/// of `main` is one. `Builder::serve` also asks for `Threads`.
 pub trait Runtime: Wait
     + MachineTime
     + RandomSource
@@ -21,12 +21,11 @@ impl<
     R: Wait + MachineTime + RandomSource + AllocGlobal + Copy + Send + Sync + Drop + 'static,
 > Runtime for R {}
 
-/// The machine's clock that never goes back, read through a runtime. Upstream reads that clock
-/// itself.
+/// The machine's monotonic clock, read through a runtime. bb8 reads that clock itself.
 ///
-/// Its zero is the machine's choice. Where the clock cannot be read it tells the zero, which a pool
-/// takes for the last moment that it has seen; a reading of more nanoseconds than a moment can
-/// count, after some 584 years, is told as the greatest moment.
+/// Its zero is the machine's choice. If the clock cannot be read it returns zero, which a pool
+/// treats as the last moment that it has seen. A reading of more nanoseconds than a moment can
+/// count (some 584 years) is returned as the greatest moment.
 #[derive(Clone, Copy)]
 pub struct MachineClock<R>(pub R);
 

@@ -1,4 +1,4 @@
-//! A refusal of memory as the error of a program that answers `RunError`.
+//! Turns a refusal of memory into `RunError`.
 ghost use Rattle.std.specs.Prelude.{◌≡◌, IfOk, IfErr, Ok, Err};
 ghost use Rattle.bb8_types.specs.declared.api.errors.RunError.TheVariants as errors;
 
@@ -6,19 +6,19 @@ use crate::jobs::NoThread;
 use bb8_core::api::{Memory, RunError};
 
 impl From<NoThread> for Memory {
-    /// No thread could be made, as where memory was refused.
+    /// No thread could be started, which is treated like refused memory.
     fn from(_: NoThread) -> Memory {
         Memory
     }
 }
 
-/// `call.or_memory()?` passes a refusal of memory on from a function that answers `RunError`, whose
-/// `?` takes each other error for the manager's own.
+/// `call.or_memory()?` passes a refusal of memory on, in a function that returns `RunError`. There
+/// a plain `?` would treat the error as the manager's own.
 pub trait OrMemory {
-    /// What the call answers where nothing was refused.
+    /// The result of a call that was not refused.
     type Value;
 
-    /// The value, or `RunError::Memory`.
+    /// Returns the value, or `RunError::Memory`.
     fn or_memory<E>(self) -> Result<Self::Value, RunError<E>>;
 }
 

@@ -1,4 +1,4 @@
-//! Gets and guards that have a handle of their own.
+//! Gets and guards with their own handle.
 ghost use Rattle.std.specs.Prelude.{◌≡◌};
 ghost use Rattle.std.specs.Arc.{arc_value};
 
@@ -16,17 +16,16 @@ use std::ops::{Deref, DerefMut};
 use std::sync::Wait;
 use std::{fmt, mem};
 
-/// A guard that has a handle of its own, so that its pool lives as long as the guard does. It
-/// dereferences to the connection. Upstream's `PooledConnection<'static>`.
+/// A guard with its own handle, so that its pool lives as long as the guard does. It dereferences
+/// to the connection. bb8's `PooledConnection<'static>`.
 ///
-/// When it is dropped it gives the connection back as `PooledConnection` does, and then its handle
-/// leaves.
+/// Its drop returns the connection as `PooledConnection` does, and then its handle leaves.
 pub struct OwnedConnection<G: Given, L: Parts> {
     pub(crate) holding: BareHandle<G, L>,
     pub(crate) taken: Taken<G::Connection, Part<L>>,
 }
 
-/// Where a get with a handle of its own stands before its answer.
+/// The stage of a get with its own handle, before it resolves.
 pub(crate) enum OwnedStage<G: Given, L: Parts> {
     /// The handle was refused.
     Refused(RunError<G::Error>),
@@ -34,18 +33,17 @@ pub(crate) enum OwnedStage<G: Given, L: Parts> {
     Open(BareHandle<G, L>, GetState<G::Connection, G::Checking, Part<L>>),
 }
 
-/// What `Pool::get_owned` answers: a get with a handle of its own, or why it has none, and nothing
-/// once it was answered.
+/// The future that `Pool::get_owned` returns: a get with its own handle, or the reason why it has
+/// none; nothing once it resolved.
 ///
-/// Each poll is as one of `GetFuture`. When it is dropped before its answer, it gives the get up as
-/// cancelled, and its handle leaves; the handle of one that was served goes with the guard, and
-/// that of one that was refused leaves at its answer. Upstream's get is an async function.
+/// Each poll is like one of `GetFuture`. If it is dropped before it resolves, the get is cancelled,
+/// and its handle leaves. The handle of a served get moves into the guard; after an error it
+/// leaves. bb8's get is an async function.
 pub struct GetOwnedFuture<G: Given, L: Parts> {
     pub(crate) stage: Option<OwnedStage<G, L>>,
 }
 
-/// What a handle does, and a get or a guard that has one of its own, as methods of an impl, so that
-/// polls and drops can call them.
+/// What a handle does, and a get or a guard with its own. (A trait because of *trait-for-threads*.)
 pub(crate) trait OwnedCalls {
     type Get;
 
@@ -55,22 +53,22 @@ pub(crate) trait OwnedCalls {
 
     type Connection;
 
-    /// One poll of a get.
+    /// Polls a get once.
     fn poll_owned(&self, get: &mut Self::Get) -> Self::Polled;
 
-    /// Lets a get go.
+    /// Cancels a get.
     fn let_go(&self, get: Self::Get);
 
-    /// Lets a get go, and then the handle.
+    /// Cancels a get, and then the handle leaves.
     fn cancel_owned(self, get: Self::Get);
 
-    /// Gives a connection back, and then lets the handle leave.
+    /// Returns a connection, and then the handle leaves.
     fn give_back_owned(self, taken: Self::Taken);
 
-    /// Lets the handle leave.
+    /// The handle leaves.
     fn leave_owned(self);
 
-    /// Takes a connection out of the pool, and then lets the handle leave.
+    /// Takes a connection out of the pool, and then the handle leaves.
     fn detach_owned(self, taken: Self::Taken) -> Self::Connection;
 }
 
@@ -133,23 +131,22 @@ impl<G: Given, L: Parts> OwnedCalls for BareHandle<G, L> {
     }
 }
 
-/// What a poll answers, and the stage then.
+/// The result of a poll, and the stage after it.
 pub(crate) struct OwnedStep<G: Given, L: Parts> {
     answer: Poll<Result<OwnedConnection<G, L>, RunError<G::Error>>>,
     stage: Option<OwnedStage<G, L>>,
 }
 
-/// What the future does with its stage, as methods of an impl, so that its poll and its drop can
-/// call them.
+/// What the future does with its stage. (A trait because of *trait-for-threads*.)
 trait OwnedStages {
     type OwnedStage;
 
     type OwnedStep;
 
-    /// One poll of the stage.
+    /// Polls the stage once.
     fn poll_stage(stage: Self::OwnedStage) -> Self::OwnedStep;
 
-    /// Lets go of the stage.
+    /// Cancels the stage.
     fn cancel_stage(stage: Self::OwnedStage);
 }
 
@@ -178,7 +175,7 @@ impl<G: Given, L: Parts> OwnedStages for GetOwnedFuture<G, L> {
                     stage: Some(OwnedStage::Open(holding, get)),
                 },
                 Poll::Ready(Err(error)) => {
-                    // The get was answered: to let it go calls nothing.
+                    // The get resolved, so its cancellation calls nothing.
                     holding.let_go(get);
                     holding.leave_owned();
                     OwnedStep {
@@ -240,8 +237,8 @@ impl<G: Given<Runtime: Wait>, L: Parts> Future for GetOwnedFuture<G, L> {
 
     ghost gives = { λ future out. GivesOwned future out };
 
-    /// One poll at the clock's reading. It is pending while the get waits before its deadline, and
-    /// after its answer.
+    /// Polls once, at the clock's reading. It is pending while the get waits before its deadline,
+    /// and after it resolved.
     fn poll(&mut self, cx: &mut Context<'_>) -> Poll<Self::Output>
         ensures table { PollsOwned self.old result self.new }
         ensures value { IfReady result (λ out. GivesOwned self.old out) }
@@ -321,7 +318,7 @@ impl<G: Given, L: Parts> Debug for OwnedConnection<G, L>
 where
     G::Connection: Debug,
 {
-    /// As the connection prints. As upstream.
+    /// Prints the connection. As bb8.
     fn fmt<W: fmt::Write>(&self, f: &mut Formatter<W>) -> fmt::Result {
         self.taken.connection.fmt(f)
     }

@@ -1,4 +1,4 @@
-//! The pool, and the guard of a connection that is out.
+//! The pool, and the guard of a checked-out connection.
 ghost use Rattle.std.specs.Prelude.{◌≡◌, ◌≤◌, ◌<◌, true, false, IfOk};
 ghost use Rattle.std.specs.Arc.{arc_value};
 ghost use Rattle.std.specs.Duration.{as_nanos};
@@ -31,33 +31,32 @@ use std::sync::ledger::Blank;
 use std::sync::{Arc, Wait};
 use std::time::Duration;
 
-/// A handle of a pool of connections. Threads share one by reference, or have one each
-/// (`try_clone`). It lends connections out as guards, which give them back when they are dropped.
+/// A handle of a pool of connections. Threads share one by reference, or each have their own
+/// (`try_clone`). It checks connections out as guards, which return them when they are dropped.
 ///
-/// As upstream, but for the type parameters: `G` is the manager, the error sink, the customizer,
-/// the clock and the runtime that the pool was built with, which `bb8::Pool` names one by one; by
-/// the parts `L` the connections that are out are counted in proofs, and they say there which
-/// settings the pool has. They take no room at run time. A call of the pool's may wait for the
-/// lock.
+/// As bb8, except for the type parameters. `G` stands for the manager, the error sink, the
+/// customizer, the clock and the runtime that the pool was built with; `bb8::Pool` names them one
+/// by one. The permits `L` count checked-out connections in proofs, and state the pool's settings
+/// there. They take no memory at run time. Calls of the pool may wait for the lock.
 ///
-/// When a handle is dropped it reads the clock and leaves under the lock. The last one closes all
-/// idle connections, which are dropped under the lock, and ends all approvals that nobody has
+/// When a handle is dropped, it reads the clock and leaves under the lock. The last one closes all
+/// idle connections, which are dropped under the lock, and ends all approvals that no task has
 /// claimed.
 pub struct Pool<G: Given, L: Parts> {
     pub(crate) shared: Arc<Shared<G, L>, Global>,
     pub(crate) handle: Handle,
 }
 
-/// A guard: a connection that is out, which dereferences to the connection. As upstream.
+/// A guard: a checked-out connection, to which it dereferences. As bb8.
 ///
-/// When it is dropped it asks the manager's `has_broken`, reads the pool's clock, and gives the
-/// connection back under the pool's lock, for which it may wait. A connection that is then closed
-/// is dropped after the lock. A guard that is forgotten keeps its connection and its part: the pool
-/// has one connection less to lend from then on.
+/// Its drop calls the manager's `has_broken`, reads the pool's clock, and returns the connection
+/// under the pool's lock, for which it may wait. If the pool closes the connection, it is dropped
+/// after the lock is released. A forgotten guard keeps its connection and its permit: the pool has
+/// one slot less from then on.
 pub struct PooledConnection<'a, G: Given, L: Parts> {
     pub(crate) shared: &'a Shared<G, L>,
     pub(crate) taken: Taken<G::Connection, Part<L>>,
-    /// By it the borrow checker knows what the guard is after a lend of its connection.
+    /// Shows the borrow checker that the guard borrows its pool (*mutable-access*).
     pub(crate) lends: PhantomData<&'a ()>,
 }
 
@@ -68,13 +67,12 @@ impl<
 > Builder<M, S, Z> {
     ghost use Rattle.bb8.specs.Pools.{clock_in, customizer_in, made_in, manager_in, settings_in, sink_in};
 
-    /// A pool that begins with no connection, and waits for none: the approvals for the first ones,
-    /// up to `min_idle`, are granted, and whoever turns a driver of the pool opens them.
+    /// Builds a pool without connections, and waits for none. Approvals for the first ones, up to
+    /// `min_idle`, are granted; a driver of the pool opens them.
     ///
-    /// As upstream, but that the clock and the runtime are handed in, with a blank of `max_size`
-    /// parts, and that memory can be refused: then, and where a first approval was withheld for
-    /// want of memory, the answer is `Memory` and all that was handed in is dropped. The settings
-    /// have to be lawful, where upstream panics.
+    /// As bb8, except that the clock and the runtime are passed in, with a blank of `max_size`
+    /// permits, and that memory can be refused. If it is, for the pool or for a first approval, it
+    /// returns `Memory` and drops all arguments. The settings must be lawful; bb8 panics otherwise.
     pub fn build_unchecked<
         K: Clock,
         R: Wait + AllocGlobal + Send + Sync + Drop + 'static,
@@ -111,11 +109,11 @@ impl<
     }
 }
 
-/// A guard taken apart, as a method of an impl, so that methods of others can call it.
+/// Takes a guard apart. (A trait because of *trait-for-threads*.)
 pub(crate) trait IntoParts {
     type Parts;
 
-    /// The connection and its part, with where they go back to.
+    /// Returns the connection and its permit, with the pool that they return to.
     fn into_parts(self) -> Self::Parts;
 }
 
@@ -135,7 +133,7 @@ impl<'a, G: Given, L: Parts> IntoParts for PooledConnection<'a, G, L> {
     }
 }
 
-/// The calls of a pool that take no lock, so that they cannot wait.
+/// The calls of a pool that acquire no lock, so they cannot wait.
 pub trait Gets {
     /// The future of a get.
     type Get;
@@ -143,25 +141,24 @@ pub trait Gets {
     /// The future of a dedicated connection.
     type Dedicated;
 
-    /// Gets a connection: an idle one, or the first that comes in the get's turn. As upstream, but
-    /// for the future's name.
+    /// Gets a connection: an idle one, or, in the get's turn, the first that becomes available. As
+    /// bb8, except for the future's name.
     ///
-    /// A get that finds nothing idle waits, and may have an approval granted to open a connection.
-    /// Without a driver of the pool nobody opens it, so the get waits for a connection that comes
-    /// back or is added, and the approval stays open, which may leave no room for an adding. A poll
-    /// that is pending asks to be polled again at once, so an executor does not sleep while a get
-    /// waits.
+    /// A get that finds nothing idle waits, and may have a connection attempt approved. Without a
+    /// driver no task makes the attempt: the get waits for a connection that is returned or added,
+    /// and the approval stays open, which may leave no capacity for `add`. A pending poll asks to
+    /// be polled again at once, so an executor does not sleep while a get waits.
     ///
-    /// It answers `TimedOut` once `connection_timeout` has passed since the first poll, or the pool
-    /// was closed, and `Memory` or `Exhausted` where the get could not begin.
+    /// It resolves to `TimedOut` once `connection_timeout` has passed since the first poll, or the
+    /// pool was closed, and to `Memory` or `Exhausted` if the get could not begin.
     fn get(self) -> Self::Get;
 
-    /// Opens a connection that the pool does not count: it takes no room in the pool, which neither
-    /// checks it nor takes it back. The customizer prepares it. As upstream, but for the future's
+    /// Opens a connection that the pool does not count: it takes no slot, is not checked, and is
+    /// never returned to the pool. The customizer prepares it. As bb8, except for the future's
     /// name.
     ///
-    /// It answers the first error of manager or customizer; it is tried once. A connection whose
-    /// preparation failed is dropped.
+    /// It tries once, and resolves to the first error of the manager or the customizer. A
+    /// connection whose preparation failed is dropped.
     fn dedicated_connection(self) -> Self::Dedicated;
 }
 
@@ -198,133 +195,131 @@ impl<'a, G: Given, L: Parts> Gets for &'a Pool<G, L> {
     }
 }
 
-/// The calls of a pool that may wait for its lock. They stand in a trait, as a thread's code can
-/// call methods of traits alone.
+/// The calls of a pool that may wait for its lock. (A trait because of *trait-for-threads*.)
 pub trait PoolCalls {
-    /// What the pool lends.
+    /// The pool's connections.
     type Connection;
 
-    /// What the manager answers where something fails.
+    /// The manager's errors.
     type Error;
 
     /// A handle of the pool.
     type Handle;
 
-    /// The future of a get with a handle of its own.
+    /// The future of a get with its own handle.
     type GetOwned;
 
     /// A guard.
     type Guard;
 
-    /// A guard that has a handle of its own.
+    /// A guard with its own handle.
     type Owned;
 
-    /// Gets a connection as `get` does, with a handle of its own, so that neither the get nor its
-    /// guard borrows the pool. As upstream, but that the handle is made at this call, where
-    /// upstream makes it once the get is served.
+    /// Gets a connection as `get` does, with its own handle, so that neither the get nor its guard
+    /// borrows the pool. As bb8, except that the handle is made in this call; bb8 makes it once the
+    /// get is served.
     ///
-    /// A handle that is refused, as by `try_clone`, is the answer of the first poll, and then no
-    /// get begins.
+    /// If the handle is refused, as `try_clone` may refuse it, the first poll returns that error,
+    /// and no get begins.
     fn get_owned(self) -> Self::GetOwned;
 
-    /// Gets a connection if one is idle, and waits for none. It asks under one taking of the lock
-    /// whether one is, and where none is it answers `None`: no get began and none is counted.
+    /// Gets a connection if one is idle, and never waits for one. If none is idle, it returns
+    /// `None`: no get began and none is counted. It decides this in one critical section.
     ///
-    /// One that goes out unchecked is the answer. With the check on, and unless
-    /// `test_on_check_out_after` spares it, the check is polled once: where it does not pass at
-    /// that poll the answer is `None`, and the get is counted as cancelled. It answers `Memory` or
-    /// `Exhausted` where the get could not begin.
+    /// A connection that is handed out unchecked is returned. With the check on, unless
+    /// `test_on_check_out_after` spares it, the check is polled once. If it does not pass at that
+    /// poll, the result is `None`, and the get counts as cancelled. Returns `Memory` or `Exhausted`
+    /// if the get could not begin.
     fn try_get(self) -> Result<Option<Self::Guard>, RunError<Self::Error>>;
 
-    /// Gets a connection as `get` does, in one call: the thread waits until the get answers,
-    /// `connection_timeout` at most. Upstream awaits.
+    /// Gets a connection as `get` does, in one call: it blocks the thread until the get resolves,
+    /// at most for `connection_timeout`. bb8 awaits.
     ///
-    /// It sleeps between the polls of its get, until a connection comes back or is opened or added,
-    /// or the deadline has come, and 50 milliseconds at most; while its connection is checked a
-    /// millisecond at most. Each poll reads the pool's clock, and again before it sleeps. The
-    /// errors are those of `get`.
+    /// Between the polls of its get the thread sleeps until a connection is returned, opened or
+    /// added, or the deadline has come, and 50 milliseconds at most; while its connection is
+    /// checked, a millisecond at most. Each poll reads the pool's clock, which is read again before
+    /// each sleep. The errors are those of `get`.
     fn get_blocking(self) -> Result<Self::Guard, RunError<Self::Error>>;
 
-    /// As `get_blocking`, with a time of its own in place of `connection_timeout`. Upstream's
-    /// caller sets a timer.
+    /// Gets a connection as `get_blocking` does, with its own timeout instead of
+    /// `connection_timeout`. With bb8 the caller sets a timer.
     fn get_blocking_timeout(self, timeout: Duration) -> Result<Self::Guard, RunError<Self::Error>>;
 
-    /// Gets a connection as `get_owned` does, and waits as `get_blocking` does. The handle is made
-    /// first; one that is refused is the answer, and then no get begins.
+    /// Gets a connection as `get_owned` does, and blocks as `get_blocking` does. The handle is made
+    /// first; if it is refused, that is the error, and no get begins.
     fn get_owned_blocking(self) -> Result<Self::Owned, RunError<Self::Error>>;
 
-    /// Adds a connection that the pool did not open. It is asked whether it is broken first, and is
-    /// otherwise idle at once, and born now. It does not count as created, and no customizer
-    /// prepares it. As upstream.
+    /// Adds a connection that the pool did not open. It is first asked whether it is broken; if
+    /// not, it is idle at once, and its age counts from now. It does not count as created, and no
+    /// customizer prepares it. As bb8.
     ///
-    /// A refusal hands the connection back, as `has_broken` left it: `Broken` where that found it
-    /// broken, else `NoCapacity` where connections and open approvals are `max_size` already, else
-    /// `Withheld` where no memory or no number was left for it.
+    /// An error returns the connection as `has_broken` left it: `Broken` if it is broken; else
+    /// `NoCapacity` if connections and open approvals are already `max_size`; else `Withheld` if no
+    /// memory or no number was left for it.
     ///
-    /// An approval is open until its connection was opened. A get that found nothing idle may have
-    /// had one granted, which stays open where nobody turns a driver of the pool, also once that
-    /// get was let go: then an adding may find no room although fewer connections than `max_size`
-    /// are there.
+    /// An approval stays open until its connection is opened. A get that finds nothing idle may
+    /// cause one, and without a driver it stays open, even after that get was cancelled. So `add`
+    /// may find no capacity although there are fewer than `max_size` connections.
     fn add(self, conn: Self::Connection) -> Result<(), AddError<Self::Connection>>;
 
-    /// How many connections the pool has, how many of them are idle, and what has happened to it.
-    /// As upstream.
+    /// Returns how many connections the pool has, how many of them are idle, and its statistics. As
+    /// bb8.
     fn state(self) -> State;
 
-    /// One handle more of the same pool. The pool lives as long as one of its handles; the drop of
-    /// the last one closes all that is idle.
+    /// Makes one more handle of the same pool. The pool lives as long as one of its handles; the
+    /// drop of the last one closes all idle connections.
     ///
-    /// It answers `Exhausted` where 4,294,967,295 handles are alive, or the pool was closed, and
-    /// `Memory` where sharing the pool was refused memory; the pool is then as before. Upstream's
-    /// `Clone`, which refuses nothing.
+    /// Returns `Exhausted` if 4,294,967,295 handles are alive or the pool was closed, and `Memory`
+    /// if memory for sharing the pool was refused; the pool is then as before. bb8's `Clone`, which
+    /// never fails.
     fn try_clone(self) -> Result<Self::Handle, RunError<Self::Error>>;
 
-    /// Retires all connections: each connection that there is now, and each that a connection
-    /// attempt under way brings, counts as too old from now on. Upstream has no such call; its
-    /// callers wait for `max_lifetime`.
+    /// Retires all connections: each present connection counts as too old from now on, and the
+    /// connection of an attempt in progress is not accepted. bb8 has no such call; its callers wait
+    /// for `max_lifetime`.
     ///
-    /// It is for a server that was moved, or a password that was changed. Idle connections are
-    /// closed now. One that is checked out stays valid until it is returned, and is closed then. A
-    /// connection attempt under way goes on; its connection is closed the first time that it is
-    /// returned. Connections that are asked for later are not touched. Each that is closed counts
-    /// in `connections_closed_retired`.
+    /// Use it after a server was moved or a password was changed. Idle connections are closed now.
+    /// A checked-out one stays valid until it is returned, and is closed then. Each closed one
+    /// counts in `connections_closed_retired`. The connection of an attempt in progress is dropped
+    /// once it is open, and is not counted; a get that waits for it is served with a new one, which
+    /// a driver opens. Connections that are requested later are not affected.
     ///
-    /// New ones are opened as far as `min_idle` asks for them, and no get that waits is woken. The
-    /// closed connections are dropped once the lock is released, one after another, so a slow drop
-    /// delays this call alone; meanwhile their replacements may be open already. If memory for a
-    /// list of `max_size` connections is refused, they are dropped under the lock.
+    /// New connections are opened as far as `min_idle` requires, and no waiter is woken. The closed
+    /// ones are dropped one after another once the lock is released, so a slow drop delays only
+    /// this call; meanwhile their replacements may already be open. If memory for a list of
+    /// `max_size` connections is refused, they are dropped under the lock.
     fn retire(self, alloc: Global);
 
-    /// Closes the pool, for all its handles at once. Upstream has no such call.
+    /// Closes the pool, for all its handles at once. bb8 has no such call.
     ///
-    /// All idle connections are closed, and dropped once the lock is free; if memory for a list of
-    /// them is refused, they are dropped under the lock. Connection attempts that no driver has
+    /// All idle connections are closed, and dropped once the lock is released; if memory for a list
+    /// of them is refused, they are dropped under the lock. Connection attempts that no driver has
     /// begun are given up. A connection that is checked out, or is just being opened, is closed
-    /// when it comes back. Gets that wait return `TimedOut` at their next poll, and blocked threads
-    /// are woken for it. From then on `get` returns `TimedOut`, `add` returns `NoCapacity`,
-    /// `try_clone` and `get_owned` return `Exhausted`, and drivers end. Closing the pool again does
-    /// nothing.
+    /// when it is returned or opened. Waiting gets return `TimedOut` at their next poll, and
+    /// blocked threads are woken for it. From then on `get` returns `TimedOut`, `add` returns
+    /// `NoCapacity`, `try_clone` and `get_owned` return `Exhausted`, and drivers end. Closing the
+    /// pool again does nothing.
     fn close(self, alloc: Global);
 
-    /// Returns whether the pool was closed. Upstream has no such call.
+    /// Returns whether the pool was closed. bb8 has no such call.
     fn is_closed(self) -> bool;
 }
 
-/// Taking a connection out of its pool.
+/// Takes connections out of their pool.
 pub trait Detach {
-    /// What the guard holds.
+    /// The guard's connection.
     type Connection;
 
-    /// Takes the connection out of the pool for good, and returns it. Its slot is free again: the
+    /// Takes the connection out of the pool for good, and returns it. Its slot is freed: the
     /// longest waiter is notified, and a new connection is requested if one is wanted. The
-    /// connection is not asked whether it is broken, and counts as closed in no figure. The handle
-    /// of an `OwnedConnection` leaves then. Upstream has no such call.
+    /// connection is not asked whether it is broken, and counts as closed in no statistic. The
+    /// handle of an `OwnedConnection` leaves then. bb8 has no such call.
     fn detach(self) -> Self::Connection;
 }
 
-/// The cancelling of a future.
+/// Cancels futures.
 pub trait Cancel {
-    /// Lets the get, the opening or the building go, as a drop does.
+    /// Cancels the get, the connection attempt or the build, as a drop does.
     fn cancel(self);
 }
 
@@ -468,7 +463,7 @@ impl<'a, G: Given<Runtime: Wait>, L: Parts> PoolCalls for &'a Pool<G, L> {
 impl<G: Given, L: Parts> Pool<G, L> {
     ghost use Rattle.bb8.specs.Pools.{settings_in};
 
-    /// The settings that the pool was built with. As upstream.
+    /// Returns the settings that the pool was built with. As bb8.
     pub fn config(&self) -> Config
         ensures { settings_of result ≡ settings_in self.now }
     {
@@ -480,8 +475,8 @@ impl<M: ManageConnection, R: Locks, L: Parts> Pool<
     These<M, NopErrorSink, NopCustomizer, SetClock, R>,
     L,
 > {
-    /// A builder with each setting at its default. As upstream; it is a call of the pools whose
-    /// errors go nowhere, whose connections nothing prepares and whose moment is set.
+    /// Returns a builder with each setting at its default. As bb8. It is a call of the pools
+    /// without sink and customizer whose moment is set.
     pub fn builder() -> Builder<M>
         ensures { result.settings ≡ default_settings }
     {
@@ -501,7 +496,7 @@ impl<G: Given, L: Parts> Drop for Pool<G, L> {
 }
 
 impl<G: Given, L: Parts> Debug for Pool<G, L> {
-    /// `Pool(..)`, without its parts. Upstream prints an address.
+    /// Prints `Pool(..)`, without its parts. bb8 prints an address.
     fn fmt<W: fmt::Write>(&self, f: &mut Formatter<W>) -> fmt::Result {
         f.write_str("Pool(..)")
     }
@@ -577,7 +572,7 @@ impl<G: Given, L: Parts> Debug for PooledConnection<'_, G, L>
 where
     G::Connection: Debug,
 {
-    /// As the connection prints. As upstream.
+    /// Prints the connection. As bb8.
     fn fmt<W: fmt::Write>(&self, f: &mut Formatter<W>) -> fmt::Result {
         self.taken.connection.fmt(f)
     }

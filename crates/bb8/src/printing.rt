@@ -1,15 +1,14 @@
-//! A sink that prints.
+//! An error sink that prints.
 ghost use Rattle.std.specs.Prelude.{◌≡◌};
 ghost use Rattle.bb8.specs.Printing.{line_text};
 
 use bb8_core::api::ErrorSink;
 use std::fmt;
 
-/// An error of a pool that has a name, as one line: the name, a colon, and the error as it
-/// displays.
+/// An error of a named pool, as one line: the name, a colon, and the error as it displays.
 #[derive(Clone, Copy, Debug)]
 pub struct ErrorLine<'a, E> {
-    /// What the error was about.
+    /// What the error is about.
     pub name: &'a str,
     /// The error.
     pub error: &'a E,
@@ -23,14 +22,14 @@ impl<E: fmt::Display> fmt::Display for ErrorLine<'_, E> {
     }
 }
 
-/// Prints each error to the standard error, as an `ErrorLine`. One that cannot be written is
-/// dropped. Upstream leaves the sink to the user.
+/// Prints each error to standard error, as an `ErrorLine`. One that cannot be written is dropped.
+/// bb8 leaves the sink to the user.
 ///
-/// The name is that of the pool or of its server; which try of an opening it was, or which check,
-/// the manager's error may say.
+/// The name is that of the pool or of its server. Which connection attempt or check failed, the
+/// manager's error may say.
 #[derive(Clone, Copy, Debug)]
 pub struct PrintingSink<R> {
-    /// What prints.
+    /// The runtime that prints.
     pub rt: R,
     /// What its errors are about.
     pub name: &'static str,

@@ -1,5 +1,5 @@
 //! A service: threads that share a pool for as long as they run.
-ghost use Rattle.std.specs.Prelude.{◌≡◌, ℕ, ⊤, List, Result, IfOk, IfErr, true, false};
+ghost use Rattle.std.specs.Prelude.{◌≡◌, ℕ, ⊤, List, Result, Ok, IfOk, IfErr, true, false};
 ghost use Rattle.bb8_types.specs.Settings.{is_lawful};
 ghost use Rattle.bb8_lock.specs.Parts.{IsBlankOf};
 ghost use Rattle.bb8.specs.Buildings.{IsBuildError};
@@ -21,11 +21,10 @@ use std::sync::ledger::Blank;
 use std::sync::{Arc, Wait};
 use std::thread::{JoinHandle, Threads};
 
-/// What a program does with its pool in threads, by whatever parts `L` the connections that are out
-/// are counted. `Builder::serve` runs it.
+/// What a program does with its pool in threads, for any permits `L`. `Builder::serve` runs it.
 ///
-/// Its methods call the pool by `PoolCalls`; a call of a function that takes the pool has no proof
-/// in them. Each has a ghost member, a relation between what it was given and what it answered,
+/// Its methods call the pool by `PoolCalls`; a function that takes the pool cannot be proved there
+/// (*trait-for-threads*). Each has a ghost member, a relation between its arguments and its result,
 /// with the pool's settings, manager and clock. The implementer chooses it, and one that is left
 /// out allows everything.
 pub trait Service<
@@ -35,41 +34,42 @@ pub trait Service<
     K: Clock,
     R: Locks,
 >: Sync {
-    /// What a thread tells.
+    /// The result of a thread.
     type Told: Send + Drop;
 
-    /// What comes of it all.
+    /// The result of the service.
     type Outcome;
 
-    // Holds of a service, and what each pool was built of that it may be run over.
+    // Holds of a service, and the `Basis` of each pool that it may run over.
     ghost suits: { Self → Basis M S Z K → Type 0 } = { λ _ _. ⊤ };
 
-    // Holds of a service, what its pool was built of, and each answer that its beginning may give.
+    // Holds of a service, the `Basis` of its pool, and each result that `begin` may have.
     ghost begins: { Self → Basis M S Z K → Result (Unit {0}) Self.Outcome → Type 0 } = { λ _ _ _. ⊤ };
 
-    // Holds of a service, what its pool was built of, the number of a thread, and each thing that
-    // the thread may tell.
+    // Holds of a service, the `Basis` of its pool, the number of a thread, and each result that the
+    // thread may have.
     ghost tells: { Self → Basis M S Z K → ℕ → Self.Told → Type 0 } = { λ _ _ _ _. ⊤ };
 
-    // Holds of a service, what its pool was built of, what the threads told in their order, and
-    // each outcome that it may end with.
+    // Holds of a service, the `Basis` of its pool, the threads' results in order, and each outcome
+    // that it may end with.
     ghost ends: { Self → Basis M S Z K → List Self.Told → Self.Outcome → Type 0 } = { λ _ _ _ _. ⊤ };
 
-    /// What is done before the threads start. Where it answers an error, none is started, and that
-    /// is what comes of it all.
+    /// Runs before the threads start. If it returns an error, none is started, and the error is the
+    /// service's result.
     fn begin<L: PoolParts>(&self, pool: &Pool<M, S, Z, K, R, L>) -> Result<(), Self::Outcome>
         requires { suits self.now (basis_of pool.now) }
         ensures { begins self.now (basis_of pool.now) result };
 
-    /// What the thread of this number does, from 0 on.
+    /// Runs in the thread of this number, from 0 on, once the service has begun.
     fn run<L: PoolParts>(&self, pool: &Pool<M, S, Z, K, R, L>, thread: usize) -> Self::Told
-        requires { suits self.now (basis_of pool.now) }
+        requires suits { suits self.now (basis_of pool.now) }
+        requires begun { begins self.now (basis_of pool.now) (Ok tt) }
         ensures { tells self.now (basis_of pool.now) thread result };
 
-    /// What is done once all threads have ended, with what they told, in their order. The pool is
-    /// dropped then.
+    /// Runs once all threads have ended, with their results in order. Then the pool is dropped.
     fn end<L: PoolParts>(&self, pool: &Pool<M, S, Z, K, R, L>, told: &[Self::Told]) -> Self::Outcome
-        requires { suits self.now (basis_of pool.now) }
+        requires suits { suits self.now (basis_of pool.now) }
+        requires begun { begins self.now (basis_of pool.now) (Ok tt) }
         ensures { ends self.now (basis_of pool.now) told.now result };
 }
 
@@ -91,7 +91,8 @@ impl<
 > Job for &OnPool<'_, These<M, S, Z, K, R>, L, V> {
     type Told = V::Told;
 
-    ghost is_ready = { λ job. V.suits job.now.service.now (basis_of job.now.pool.now) };
+    ghost is_ready = { λ job. V.suits job.now.service.now (basis_of job.now.pool.now)
+        × V.begins job.now.service.now (basis_of job.now.pool.now) (Ok tt) };
 
     ghost tells = { λ job thread told. V.tells job.now.service.now (basis_of job.now.pool.now) thread told };
 
@@ -100,7 +101,7 @@ impl<
     }
 }
 
-/// Lets a driver go on for as long as its service runs.
+/// Keeps a driver running as long as its service runs.
 #[derive(Drop)]
 struct WhileServing {
     over: Arc<AtomicBool, Global>,
@@ -112,7 +113,7 @@ impl Gate for WhileServing {
     }
 }
 
-/// Builds a pool whose parts are named, and waits asleep until its first connections are open.
+/// Builds a pool with these permits, and sleeps until its first connections are open.
 fn built<
     M: ManageConnection,
     S: ErrorSink<M::Error>,
@@ -137,7 +138,7 @@ fn built<
     building.wait(&rt)
 }
 
-/// Runs a service over its pool, in as many threads.
+/// Runs a service over its pool, in this many threads.
 fn run_service<
     M: ManageConnection,
     S: ErrorSink<M::Error>,
@@ -160,7 +161,7 @@ fn run_service<
     Ok(service.end(pool, &told))
 }
 
-/// Starts a driver of the pool in a thread of its own, which makes turns until the flag is set.
+/// Starts a driver of the pool in its own thread, which makes turns until the flag is set.
 fn drive_while<
     M: ManageConnection,
     S: ErrorSink<M::Error>,
@@ -177,7 +178,7 @@ fn drive_while<
     Ok(drive(&rt, driver, WhileServing { over })?)
 }
 
-/// Runs a service over a pool whose parts are named.
+/// Runs a service over a pool with these permits.
 fn serve_with<
     M: ManageConnection,
     S: ErrorSink<M::Error>,
@@ -220,17 +221,16 @@ impl<
     S: ErrorSink<M::Error>,
     Z: CustomizeConnection<M::Connection, M::Error>,
 > Builder<M, S, Z> {
-    /// Builds a pool as `build` does, with parts of its own, and waits asleep until its first
-    /// connections are open. Then it runs a service over the pool: the service begins, each thread
-    /// runs with its number, in a thread of its own where one can be made, and once all have ended
-    /// the service ends. A driver makes the pool's turns meanwhile, in one more thread, which
-    /// sleeps between two of them while nothing is to be done (`Driver::run`). Then the pool is
-    /// dropped, and the driver with it.
+    /// Builds a pool as `build` does, with its own permits, and sleeps until its first connections
+    /// are open. Then it runs a service over the pool: `begin`, then `run` for each number, in its
+    /// own thread if one can be started, and `end` once all have ended. Meanwhile a driver makes
+    /// the pool's turns in one more thread, which sleeps while there is nothing to do
+    /// (`Driver::run`). Then the pool and the driver are dropped.
     ///
-    /// The answer is `User` with the error of a first connection that could not be opened, and
-    /// `Memory` where the pool, or a thread for its driver, could not be made: then the service did
-    /// not begin. It is `Memory` too where what the threads tell found no memory: then some may
-    /// have run, but the service does not end. Settings are as for `build`.
+    /// Returns `User` with the error of a first connection that could not be opened, and `Memory`
+    /// if the pool or a thread for its driver could not be made; then the service did not begin. It
+    /// returns `Memory`, too, if memory for the threads' results is refused; then some may have
+    /// run, but `end` does not run. Settings are as for `build`.
     pub fn serve<
         K: Clock,
         R: Threads + Wait + AllocGlobal + Copy + Send + Sync + Drop + 'static,

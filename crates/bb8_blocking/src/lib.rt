@@ -1,5 +1,5 @@
-//! A manager over a client that blocks, in three plain calls, and the wrapper by which a pool takes
-//! it. Upstream has neither.
+//! A manager of clients that block, with three plain methods, and its wrapper for pools. bb8 has
+//! neither.
 #![tactic(auto)]
 
 ghost use Rattle.std.specs.Prelude.{◌≡◌, ⊤, Bool, Result};
@@ -12,59 +12,62 @@ use bb8_types::api::{ManageConnection, Moment};
 use futures::task::Poll;
 use std::fmt::Debug;
 
-/// Opens and checks the connections of a pool by calls that may block. A pool takes it as
-/// `Blocking(manager)`. Upstream has no such trait.
+/// Opens and checks the connections of a pool with calls that may block. A pool takes it as
+/// `Blocking(manager)`. bb8 has no such trait.
 ///
-/// A call holds up its thread until it returns. `connect` holds up a driver's: its other openings
-/// and its reaper wait. `is_valid` holds up that of a get's caller, also past the get's deadline.
-/// So the client has a time limit of its own, or more drivers of the pool run, each in a thread of
-/// its own. A client that can be polled implements `ManageConnection` itself.
+/// A call blocks its thread until it returns. `connect` blocks a driver's: its other attempts and
+/// its reaper wait. `is_valid` blocks the thread of the get's caller, possibly past the get's
+/// deadline. So give the client a time limit of its own, or run more drivers, each in a thread of
+/// its own. For a client that can be polled, implement `ManageConnection` itself.
 ///
-/// Each call has a ghost member, a relation between what the call was given and what it answered.
-/// The implementer chooses it, and one that is left out allows everything.
+/// Each method has a ghost member: a relation between its arguments and its result. The implementer
+/// chooses it; an omitted one allows everything.
 pub trait BlockingManager: Sized + Send + Sync + Drop + 'static {
-    /// What the pool keeps and hands out.
+    /// The connection that the pool keeps and checks out.
     type Connection: Send + Drop + 'static;
 
-    /// Why a connection could not be opened, or is not valid.
+    /// The error of an attempt or a check that failed.
     type Error: Debug + Send + Drop + 'static;
 
-    // Holds of a manager and each answer that an opening may have.
+    // Relates a manager to each result of a connection attempt.
     ghost opens: { Self → Result Self.Connection Self.Error → Type 0 } = { λ _ _. ⊤ };
 
-    // Holds of a manager, a connection, each answer that its check may have, and the connection
-    // then.
+    // Relates a manager and a connection to each result of its check, and to the connection after
+    // it.
     ghost validates: { Self → Self.Connection → Result (Unit {0}) Self.Error → Self.Connection → Type 0 } = { λ _ _ _ _. ⊤ };
 
-    // Holds of a manager, a connection, whether it may be called broken, and the connection then.
+    // Relates a manager and a connection to each result of `has_broken`, and to the connection
+    // after it.
     ghost breaks: { Self → Self.Connection → Bool → Self.Connection → Type 0 } = { λ _ _ _ _. ⊤ };
 
-    /// Opens a connection. It returns once the connection is open or has failed, and may block
-    /// until then, unlike upstream's.
+    /// Opens a connection. It returns once the connection is open or the attempt has failed, and
+    /// may block until then. In bb8 it is async.
     fn connect(&self) -> Result<Self::Connection, Self::Error>
         ensures { opens self.now result };
 
-    /// Checks whether a connection still serves: Ok where it does, an error where it is to be
-    /// closed. It may block until that is known, unlike upstream's.
+    /// Checks whether a connection still works. Returns Ok if it does, an error if it must be
+    /// closed. It may block until that is known. In bb8 it is async.
     fn is_valid(&self, connection: &mut Self::Connection) -> Result<(), Self::Error>
         ensures { validates self.now connection.old result connection.new };
 
-    /// Whether a connection is known to be of no more use, without waiting. As upstream.
+    /// Returns, without waiting, whether a connection is known to be useless. As in bb8.
     fn has_broken(&self, connection: &mut Self::Connection) -> bool
         ensures { breaks self.now connection.old result connection.new };
 }
 
-/// A pool's manager that makes the calls of the one inside. Upstream has no such wrapper.
+/// The `ManageConnection` that calls a `BlockingManager`. It is a wrapper because of *only-match*
+/// in docs/TOOLCHAIN.md. bb8 has no such wrapper.
 ///
-/// To begin an opening or a check calls nothing. Its first poll makes the one call, holds up its
+/// The begin of an attempt or a check calls nothing. Its first poll makes the one call, blocks its
 /// thread until that returns, and is ready.
 #[derive(Drop)]
 pub struct Blocking<B: BlockingManager>(
-    /// What opens and checks the connections.
+    /// The manager of the connections.
     pub B,
 );
 
-/// To begin changes nothing. A poll is ready with what the call inside answered.
+/// The begin of an attempt or a check changes nothing. A poll is ready with the result of the call
+/// inside.
 impl<B: BlockingManager> ManageConnection for Blocking<B> {
     type Connection = B::Connection;
 

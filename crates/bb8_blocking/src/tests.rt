@@ -1,4 +1,4 @@
-//! What no clause says: how often a poll of an opening calls.
+//! What no clause states: how many calls a poll of an attempt makes.
 use super::{Blocking, BlockingManager};
 use bb8_types::api::{ManageConnection, Moment};
 use futures::task::Poll;

@@ -1,5 +1,5 @@
 -- A begin and a try in one step.
-use Rattle.bb8_core.proofs.Words.{◌≡◌, ℕ, ◌+◌, ◌<◌, max, Bool, false, cond, Option, Some, None, refl, sym, ap, ◌∙◌, arith, subst, get, Grant, Guarded, Active, Getting, Counters, Begin, Try, Counts, Begun, Served, Taken, due, one, ltb, Held, Holding, first_of, gets_stand, is_trying, counts_held, StateView, IsFitting, RecordsView, GetsView, eqb_self, get_inserted, end_of_numbers, same_gets, true, entered_in, is_checked, ◌&&◌, eqb, leb, nat_tests, inl, inr}
+use Rattle.bb8_core.proofs.Words.{◌≡◌, ℕ, ◌+◌, ◌<◌, max, Bool, false, cond, Option, Some, None, refl, sym, ap, ◌∙◌, arith, subst, get, Grant, Guarded, Active, Getting, Counters, Begin, Try, Counts, Begun, Served, Taken, due, one, ltb, Held, Holding, first_of, gets_stand, is_trying, counts_held, StateView, IsFitting, RecordsView, GetsView, eqb_self, get_inserted, end_of_numbers, same_gets, true, entered_in, is_checked, inl, inr}
 use Rattle.bb8_tables.specs.Machine as machine
 use Rattle.bb8_core.specs.Decided as decided
 use Rattle.bb8_core.specs.StepAnswers.{NotAtOnce}

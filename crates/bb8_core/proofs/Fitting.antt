@@ -1,8 +1,8 @@
 -- What the condition of a step says of what is shown.
-use Rattle.bb8_core.proofs.Words.{◌≡◌, ℕ, length, ◌≤◌, Bool, true, false, Option, Some, None, is_some, refl, sym, ap, ◌∙◌, subst, ◌+◌, ◌<◌, max, arith, ltb-true, get, Place, Unclaimed, Claimed, Idle, Held, Guarded, Standing, Getting, CheckedOk, GiveUp, Leave, Reason, Cancelled, Ledger, agree, ◌&&◌, conns, approved, alive, get_of, start, latest, handles, records, gets, record_of, holds, stands, gets_stand, is_unnotified, is_claimed, is_guarded, is_held_by, is_out, is_trying, GetPlace, Active, Holding, fits, IsLegal, StateView, shown_beside, HasLedger, IsFitting, Represents, standing_is, claimed_is, guarded_out, and_right, all_held, alive_get, alive_is, out_counted, claimed_counted, Fits, all_fit, due_few, Numbered, end_of_numbers, due, Settings, none_lent, RecordsView, NoneAfter, ltb, next, option_and_then}
+use Rattle.bb8_core.proofs.Words.{◌≡◌, ℕ, length, ◌≤◌, Bool, true, false, Option, Some, None, is_some, refl, sym, ap, ◌∙◌, subst, ◌+◌, ◌<◌, max, arith, ltb-true, get, Place, Unclaimed, Claimed, Idle, Held, Guarded, Standing, Getting, CheckedOk, GiveUp, Leave, Reason, Cancelled, Act, Answer, Ledger, agree, ◌&&◌, conns, approved, alive, get_of, start, latest, handles, records, gets, record_of, holds, stands, gets_stand, is_unnotified, is_claimed, is_guarded, is_held_by, is_out, is_trying, GetPlace, Active, Holding, fits, IsLegal, StateView, shown_beside, HasLedger, IsFitting, Represents, standing_is, claimed_is, guarded_out, and_right, all_held, alive_get, alive_is, out_counted, claimed_counted, Fits, all_fit, due_few, Numbered, end_of_numbers, due, Settings, none_lent, RecordsView, NoneAfter, ltb, next, option_and_then}
 use Rattle.std.proofs.Common.{lt-ltb}
 use Rattle.std.proofs.lemmas.Bool.{ltb-false}
-use Rattle.bb8_core.specs.StateView.{TellsFitting}
+use Rattle.bb8_core.specs.StateView.{IsAsBefore, Meets, TellsFitting}
 use Rattle.bb8_types.specs.Places.{held_in}
 use Rattle.bb8_types.specs.declared.standing.GetPlace.TheVariants.{Waiting}
 use Rattle.bb8_ledger.specs.Ledger.{idle}
@@ -63,6 +63,14 @@ module _ {C : Type 0} where
   -- the fields are what is shown
   pub as_shown : {s t : StateView C} (l : Ledger C) → s ≡ t → Represents l s → Represents l t
   as_shown l is means = subst (λ (x : StateView C). Represents l x) is means
+
+  -- so is a state that is as before, but for what was lent
+  pub still_shown : {s t : StateView C} (l : Ledger C) → IsAsBefore s t → Represents l s → Represents l t
+  still_shown {s} {t} l same means = ap (λ (x : StateView C). record x { lent = t.lent }) means ∙ sym same
+
+  -- and a step from there is one from the former state
+  pub meets_still : {s t : StateView C} (new : StateView C) (at : ℕ) (e : Act C) (a : Answer) → IsAsBefore s t → Meets t at e a new → Meets s at e a new
+  meets_still new at e a same meets l legal means = meets l legal (still_shown l same means)
 
   pub shown_record : (l : Ledger C) (s : StateView C) → Represents l s → (k : ℕ) → record_of l k ≡ get s.records.places k
   shown_record l s is k = sym (numbered.get-numbered (λ (r : Numbered (Standing C)). r.standing) (records l) (start l).first k) ∙ ap (λ (t : StateView C). get t.records.places k) is
@@ -137,7 +145,7 @@ module _ {C : Type 0} where
       subst (λ (t : StateView C). 1 ≤ t.records.conns) h.2 some
 
   -- its number is one that was given
-  pub number_few : (k : ℕ) (s : StateView C) → HasLedger s → (st : Standing C) × (get s.records.places k ≡ Some st) × (is_out st.place ≡ true)
+  pub number_few : {P : Standing C → Type 0} (k : ℕ) (s : StateView C) → HasLedger s → (st : Standing C) × (get s.records.places k ≡ Some st) × P st
       → s.records.next ≤ end_of_numbers → k < end_of_numbers
   number_few k s h st few = subst (λ (t : StateView C). t.records.next ≤ end_of_numbers → k < end_of_numbers) h.2 (go (ltb k (next h.0)) refl) few
     where

@@ -1,5 +1,5 @@
 -- The step of a reap.
-use Rattle.bb8_core.proofs.Words.{◌≡◌, ◌≢◌, ℕ, suc, ◌+◌, ◌<◌, ◌≤◌, max, false, List, length, refl, sym, ap, ◌∙◌, arith, subst, length-append, Grant, Standing, Counters, Told, counts_held, Reaps, after_reap, RecordsView, end_of_numbers, Counts, Numbered, Reap, Reaped, Ended, Ledger, start, position, latest, records, peak, idle_at, with_ended, reap_ended, reaps, reaped_at, outlived_at, idled_at, StateView, shown_records, HasLedger, Before, before_later, entered_before, ended_all_before, reaped_sized, ended_append, Settings, Some, outlived, idled, Retire, retiring, retired_at, retires, retire_ended, retired_sized, ◌++◌, counts}
+use Rattle.bb8_core.proofs.Words.{◌≡◌, ◌≢◌, ℕ, suc, ◌+◌, ◌<◌, ◌≤◌, max, false, List, length, refl, sym, ap, ◌∙◌, arith, subst, length-append, Grant, Standing, Counters, Told, counts_held, Reaps, after_reap, RecordsView, end_of_numbers, Counts, Numbered, Reap, Reaped, Ended, Ledger, start, position, latest, records, peak, idle_at, with_ended, reap_ended, reaps, reaped_at, outlived_at, idled_at, StateView, shown_records, HasLedger, Before, before_later, entered_before, ended_all_before, reaped_sized, ended_append, Settings, Some, outlived, idled, Retire, retiring, retired_at, retires, retire_ended, retired_sized, counts}
 use Rattle.bb8_tables.specs.Machine as machine
 use Rattle.bb8_core.specs.Decided as decided
 use Rattle.bb8_core.proofs.Fitting.{shown, shown_fits, ended_shown}

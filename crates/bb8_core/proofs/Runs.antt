@@ -1,8 +1,8 @@
 -- Runs: what a state says of its ledger's numbers, an event that does not fit, and lists of events.
-use Rattle.bb8_core.proofs.Words.{◌≡◌, ℕ, zero, suc, true, false, List, [], ◌∷◌, ◌++◌, take, length, Option, Some, None, IsSome, IfSome, IfNone, refl, sym, ap, ◌∙◌, subst, get, Key, Event, Act, Try, Unfit, Ledger, Later, gets_stand, is_trying, fits, Allowed, IsLegal, StateView, Represents, IsRecordIn, IsNoRecordIn, IsGetIn, IsNoGetIn, act_of, answer_of, IsRun, AfterEach, RecordsView, GetsView}
+use Rattle.bb8_core.proofs.Words.{◌≡◌, ℕ, zero, suc, true, false, List, [], ◌∷◌, ◌++◌, take, length, Option, Some, None, IsSome, IfSome, IfNone, refl, sym, ap, ◌∙◌, subst, get, Key, Event, Act, Try, Unfit, Ledger, Later, gets_stand, is_trying, fits, Allowed, IsLegal, StateView, Represents, IsRecordIn, IsNoRecordIn, IsGetIn, IsNoGetIn, act_of, answer_of, IsRun, AfterEach, RecordsView, GetsView, Lent}
 use Rattle.bb8_tables.specs.declared.keys.GetKey.{GetKey}
 use Rattle.bb8_core.specs.declared.replay.events.Answer.{Answer as Told}
-use Rattle.bb8_core.specs.StateView.{IsFitting, Meets, TellsFitting}
+use Rattle.bb8_core.specs.StateView.{IsAsBefore, IsFitting, Meets, TellsFitting}
 use Rattle.bb8_core.proofs.Fitting.{shown, bare, beside, as_shown, shown_record, shown_get}
 use Rattle.bb8_core.proofs.Steps.{unfitting, same_shown, records_kept, gets_kept}
 
@@ -37,20 +37,24 @@ module _ {C : Type 0} where
   pub unfit_now : (l : Ledger C) (s : StateView C) (at : ℕ) (e : Act C) → fits l e ≡ false → Represents l s → Allowed l at e Unfit × Represents (Later l at e Unfit) s
   unfit_now l s at e misfit means = (unfitting (fits l e) _ _ misfit refl, beside (Later l at e Unfit) (unfit_shown l at e ∙ bare l means))
 
-  -- so it is a step that changes nothing
-  pub unfit_step : {s : StateView C} (at : ℕ) (e : Act C) → TellsFitting s e false → Meets s at e Unfit s × (s ≡ s)
-  unfit_step {s} at e tells = (λ l legal means. unfit_now l s at e (sym (tells l legal means)) means, refl)
+  -- so it is a step that changes nothing but what was lent
+  pub unfit_step : {s t : StateView C} {lent : Lent} (at : ℕ) (e : Act C) → s ≡ t → TellsFitting t e false
+      → Meets t at e Unfit (record s { lent = lent }) × IsAsBefore t (record s { lent = lent })
+  unfit_step {s} {t} {lent} at e is tells = (
+    λ l legal means. unfit_now l (record s { lent = lent }) at e (sym (tells l legal means)) (ap (λ (x : StateView C). record x { lent = lent }) (as_shown l (sym is) means)),
+    ap (λ (x : StateView C). record x { lent = lent }) is,
+  )
 
   -- it leaves what it read, where that is told to be as it was
-  pub unfit_records : {s t : StateView C} {rs : RecordsView C} (at : ℕ) (e : Act C) → s ≡ t → TellsFitting s e false → rs ≡ s.records
-      → Meets t at e Unfit (record s { records = rs }) × (record s { records = rs } ≡ t)
-  unfit_records {s} {t} at e is tells same = subst (λ (x : StateView C). Meets t at e Unfit x × (x ≡ t)) (sym (ap (λ (y : RecordsView C). record s { records = y }) same ∙ is))
-      (unfit_step at e (subst (λ (x : StateView C). TellsFitting x e false) is tells))
+  pub unfit_records : {s t : StateView C} {rs : RecordsView C} {lent : Lent} (at : ℕ) (e : Act C) → s ≡ t → TellsFitting s e false → rs ≡ s.records
+      → Meets t at e Unfit (record s { records = rs; lent = lent }) × IsAsBefore t (record s { records = rs; lent = lent })
+  unfit_records {s} {t} {lent = lent} at e is tells same = unfit_step {lent = lent} at e (ap (λ (y : RecordsView C). record s { records = y }) same ∙ is)
+      (subst (λ (x : StateView C). TellsFitting x e false) is tells)
 
-  pub unfit_gets : {s t : StateView C} {gs : GetsView} (at : ℕ) (e : Act C) → s ≡ t → TellsFitting s e false → gs ≡ s.gets
-      → Meets t at e Unfit (record s { gets = gs }) × (record s { gets = gs } ≡ t)
-  unfit_gets {s} {t} at e is tells same = subst (λ (x : StateView C). Meets t at e Unfit x × (x ≡ t)) (sym (ap (λ (y : GetsView). record s { gets = y }) same ∙ is))
-      (unfit_step at e (subst (λ (x : StateView C). TellsFitting x e false) is tells))
+  pub unfit_gets : {s t : StateView C} {gs : GetsView} {lent : Lent} (at : ℕ) (e : Act C) → s ≡ t → TellsFitting s e false → gs ≡ s.gets
+      → Meets t at e Unfit (record s { gets = gs; lent = lent }) × IsAsBefore t (record s { gets = gs; lent = lent })
+  unfit_gets {s} {t} {lent = lent} at e is tells same = unfit_step {lent = lent} at e (ap (λ (y : GetsView). record s { gets = y }) same ∙ is)
+      (subst (λ (x : StateView C). TellsFitting x e false) is tells)
 
   -- and one that fits may be made
   pub fitting : {s : StateView C} (e : Act C) → TellsFitting s e true → IsFitting s e

@@ -478,19 +478,19 @@ module _ {C : Type 0} where
         meets_quiet (λ t. t.handles ≡ 0) Claim Ended (λ l legal means. refl) ended_now refl refl (λ l. (refl, refl, refl, refl))
         (λ l legal f none. (claim_ended none, refl, refl))
 
-    pub meets_opened : {k : ℕ} (c : C) {rs : RecordsView C} {n : Option ℕ} {gs : GetsView} {new : Counts} → IsFitting s (Opened k c) → s.handles ≢ 0
+    pub meets_opened : {k : ℕ} (c : C) {rs : RecordsView C} {n : Option ℕ} {gs : GetsView} {new : Counts} → IsFitting s (Opened k c) → decided.comes_late s k ≡ false
         → rs ≡ machine.after_entry true k (record { place = Idle c; birth = now; entered = now }) s.records → Notices s.gets n gs
         → new ≡ record s.counts { created = s.counts.created + 1 }
         → IsStep s at (Opened k c) (Entered k n) (record s { latest = now; records = rs; gets = gs; counts = new })
-    meets_opened {k} c {rs} {n} {gs} {new} fit alive_now rs_is told new_is =
-        meets_by (λ t. (0 < t.handles) × (n ≡ slice_get t.gets.waiting 0))
+    meets_opened {k} c {rs} {n} {gs} {new} fit in_time rs_is told new_is =
+        meets_by (λ t. (decided.comes_late t k ≡ false) × (n ≡ slice_get t.gets.waiting 0))
         (λ t. record t {
           latest = max t.latest at;
           records = machine.after_entry true k (record { place = Idle c; birth = max t.latest at; entered = max t.latest at }) t.records;
           gets = machine.after_notice n t.gets;
           counts = record t.counts { created = t.counts.created + 1 };
         }) s _ at (Opened k c) (Entered k n) fit
-        (open_now _ alive_now, told.who)
+        (in_time, told.who)
         (same_shown _ _ refl refl refl now_is refl (rs_is ∙ ap (λ (m : ℕ). machine.after_entry true k (record { place = Idle c; birth = m; entered = m }) s.records) now_is) told.after new_is)
         (λ l legal f known.
         let st = standing_is is_claimed (record_of l k) f in
@@ -500,12 +500,12 @@ module _ {C : Type 0} where
         (λ r. entry c (max (latest l) at) (max (latest l) at) (position l)) (entered_before l) st.1 st.2 (λ r e. refl) in
         (opens known.0 known.1, same_shown _ _ refl refl refl refl refl (ap machine.with_peak is ∙ raised_same _ (omega arith)) (gets_told l n known.1) refl))
 
-    pub meets_late : {k : ℕ} (c : C) {rs : RecordsView C} → IsFitting s (Opened k c) → s.handles ≡ 0 → rs ≡ machine.after_close true k s.records
+    pub meets_late : {k : ℕ} (c : C) {rs : RecordsView C} → IsFitting s (Opened k c) → decided.comes_late s k ≡ true → rs ≡ machine.after_close true k s.records
         → IsStep s at (Opened k c) (Late k) (record s { latest = now; records = rs })
-    meets_late {k} c {rs} fit ended_now rs_is =
-        meets_by (λ t. t.handles ≡ 0) (λ t. record t { latest = max t.latest at; records = machine.after_close true k t.records }) s _ at
-        (Opened k c) (Late k) fit ended_now (same_shown _ _ refl refl refl now_is refl rs_is refl refl)
-        (λ l legal f none. (opens_late none, same_shown _ _ refl refl refl refl refl (approval_ended l k f) (gets_kept l) refl))
+    meets_late {k} c {rs} fit late rs_is =
+        meets_by (λ t. decided.comes_late t k ≡ true) (λ t. record t { latest = max t.latest at; records = machine.after_close true k t.records }) s _ at
+        (Opened k c) (Late k) fit late (same_shown _ _ refl refl refl now_is refl rs_is refl refl)
+        (λ l legal f known. (opens_late known, same_shown _ _ refl refl refl refl refl (approval_ended l k f) (gets_kept l) refl))
 
     pub meets_failed : {k : ℕ} {rs : RecordsView C} → IsFitting s (Failed k) → rs ≡ machine.after_close true k s.records → IsStep s at (Failed k) GivenBack (record s { latest = now; records = rs })
     meets_failed {k} {rs} fit rs_is =

@@ -1,4 +1,4 @@
--- What the fields of a `PoolInternals` mean.
+-- The meaning of the fields of a `PoolInternals`.
 use Rattle.std.specs.Prelude.{ℕ, Option, eqb, ltb, ◌≡◌, ◌<◌, ◌≤◌, ◌||◌}
 use Rattle.bb8_types.specs.Bounds.{end_of_numbers, last_moment}
 use Rattle.bb8_types.specs.Places.{is_past}
@@ -7,22 +7,22 @@ use Rattle.bb8_types.specs.Settings.{settings_of}
 use Rattle.bb8_core.specs.StateView.{StateView}
 use Rattle.bb8_tables.specs.Counted.{counts_held}
 
--- just the ages above this one reach a limit, up to the last moment
+-- whether exactly the ages above this one reach a limit, up to the last moment
 abbrev pub IsGreatestAge : Option ℕ → ℕ → Type 0
 IsGreatestAge limit greatest = (age : ℕ) → age ≤ last_moment → ltb greatest age ≡ is_past limit age
 
--- just the connections with numbers below this one are closed when they come back, though they are
--- neither broken nor too old
+-- whether exactly the connections with numbers below this one are closed when they are opened or
+-- returned although they are neither broken nor too old
 abbrev pub ClosesBelow : ℕ → ℕ → ℕ → Type 0
 ClosesBelow handles retired below = (k : ℕ) → k < end_of_numbers → ltb k below ≡ (eqb handles 0 || ltb k retired)
 
--- what the fields say that save a step its work
+-- the meaning of the fields that save a step work
 pub record SavesWork (lifetime : Option ℕ) (greatest handles retired below : ℕ) : Type 0 where
   pub age : IsGreatestAge lifetime greatest
   pub closed : ClosesBelow handles retired below
 
 module _ {C A : Type 0} where
-  -- what the fields show
+  -- the view of the fields
   abbrev pub view_of : Inside C A → StateView C
   view_of a = record {
     config = settings_of a.config;

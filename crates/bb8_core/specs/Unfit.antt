@@ -1,22 +1,22 @@
--- Steps that are made only where their events fit.
+-- Steps that happen only if their events fit.
 use Rattle.std.specs.Prelude.{◌≡◌, ℕ, Result, Ok, Err, IfErr}
 use Rattle.bb8_ledger.specs.Acts.{Act}
 use Rattle.bb8_ledger.specs.Answers as answers
 use Rattle.bb8_ledger.specs.Answers.{Answer}
-use Rattle.bb8_core.specs.StateView.{StateView}
+use Rattle.bb8_core.specs.StateView.{StateView, IsAsBefore}
 
--- the answer of such a step, by plain numbers
+-- the result of such a step, with plain numbers
 abbrev pub answered : {A U : Type 0} → (A → Answer) → Result A U → Answer
 answered told (Ok a) = told a
 answered told (Err u) = answers.Unfit
 
--- Such a step of those that make their events like this: its event and its answer. Where the event
--- does not fit nothing changes.
+-- Such a step, with the relation `Makes` of steps: its event and its result. If the event does not
+-- fit, only the access counter changes.
 abbrev pub Stepped : {A C U : Type 0} → (StateView C → ℕ → Act C → Answer → StateView C → Type 0) → (A → Answer) → StateView C → ℕ → Act C → Result A U → StateView C → Type 0
-Stepped Makes told old at e r new = Makes old at e (answered told r) new × IfErr r (λ u. new ≡ old)
+Stepped Makes told old at e r new = Makes old at e (answered told r) new × IfErr r (λ u. IsAsBefore old new)
 
--- where the event fits this holds of its answer, and otherwise the connection that was handed in
--- comes back
+-- if the event fits, this holds of its result; otherwise the connection that was handed in is
+-- returned
 abbrev pub OrComesBack : {A C : Type 0} → (C → A → Type 0) → C → Result A C → Type 0
 OrComesBack Holds conn (Ok a) = Holds conn a
 OrComesBack Holds conn (Err c) = c ≡ conn

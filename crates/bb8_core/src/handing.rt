@@ -1,10 +1,10 @@
-//! Steps that hand over: where one notifies a get, that get tries in the same call. So no other try
-//! comes between, and in a pool whose events all hand over gets are handed connections in the order
-//! in which they began to wait. A get that is notified by a close, or whose check fails, loses its
-//! place.
+//! Steps with hand-off: if a step notifies a get, that get tries in the same call. No other try
+//! comes between, so if all events of a pool have hand-off, gets are served in the order in which
+//! they began to wait. Exception: a get that a close notifies, or whose check fails, loses its
+//! position.
 //!
-//! Each is the step of its name, and then that try. It can ask a pool no question that its state
-//! does not count.
+//! Each function is the step of its name, followed by that try. None can read a pool's tables
+//! without counting the access.
 ghost use Rattle.std.specs.Prelude.{None, Some, IfSome, IfOk};
 ghost use Rattle.bb8_ledger.specs.Acts as acts;
 ghost use Rattle.bb8_core.specs.Unfit.{Stepped, OrComesBack, answered};
@@ -18,17 +18,17 @@ use crate::internals::{
     PoolInternals, PutBackAnswer, Reason, TryAnswer, Unfit,
 };
 
-/// What a step that hands over comes to.
+/// The result of a step with hand-off.
 #[derive(Drop)]
 pub struct HandedOver<R, C> {
-    /// What the step answered.
+    /// The result of the step.
     pub told: R,
-    /// What the try of the get answered that the step notified, where it notified one.
+    /// The result of the notified get's try, if a get was notified.
     pub tried: Option<TryAnswer<C>>,
 }
 
-/// Lets the get try that was notified, if one was. It stands once, as the steps round it stand in
-/// their places.
+/// Makes the try of the notified get, if there is one. It is not inlined, because the steps around
+/// it are.
 #[inline(never)]
 fn try_of<C: Drop, A>(
     pool: &mut PoolInternals<C, A>,
@@ -44,13 +44,13 @@ fn try_of<C: Drop, A>(
         None => None,
         Some(get) => match pool.try_get(at, get) {
             Ok(tried) => Some(tried),
-            // Whoever was notified may try, so this does not come.
+            // Unreachable: a notified get may try.
             Err(Unfit) => None,
         },
     }
 }
 
-// What a step comes to, and then the try of the get that it notified.
+// Makes a step, and then the try of the get that it notified.
 macro_rules! hand_over {
     ($pool:ident, $at:ident, $step:expr) => {
         match $step {
@@ -69,7 +69,7 @@ macro_rules! hand_over {
     };
 }
 
-/// Tells that the check of a get failed, and hands over.
+/// Reports that the check of a get failed, with hand-off.
 #[inline(always)]
 pub fn checked_err<C: Drop, A>(
     pool: &mut PoolInternals<C, A>,
@@ -84,13 +84,13 @@ pub fn checked_err<C: Drop, A>(
     ensures connection { OrComesBack GivesBackInvalid conn result.told }
     ensures order { StaysPrompt result.tried pool.old at.0
         (acts.CheckedErr get.number broken) (answered answer_of_checked_err result.told) }
-    ensures examined { IfOk result.told (λ told. LooksFew 3 result.tried pool.old pool.new) }
+    ensures examined { LooksFew 3 result.tried pool.old pool.new }
     ensures limits { IsWithinLimits pool.old }
 {
     hand_over!(pool, at, pool.checked_err(at, get, conn, broken, hint))
 }
 
-/// Gives up a get that holds nothing, and hands over.
+/// Ends a get that holds nothing and is not served, with hand-off.
 #[inline(always)]
 pub fn give_up<C: Drop, A>(
     pool: &mut PoolInternals<C, A>,
@@ -104,13 +104,13 @@ pub fn give_up<C: Drop, A>(
     ensures connection { IfOk result.told (GivesBackHeld None) }
     ensures order { StaysPrompt result.tried pool.old at.0
         (acts.GiveUp get.number (reason_of reason) None broken) (answered answer_of_give_up result.told) }
-    ensures examined { IfOk result.told (λ told. LooksFew 1 result.tried pool.old pool.new) }
+    ensures examined { LooksFew 1 result.tried pool.old pool.new }
     ensures limits { IsWithinLimits pool.old }
 {
     hand_over!(pool, at, pool.give_up(at, get, reason, broken))
 }
 
-/// Gives up a get that holds this connection, and hands over.
+/// Ends a get that holds this connection and is not served, with hand-off.
 #[inline(always)]
 pub fn give_back<C: Drop, A>(
     pool: &mut PoolInternals<C, A>,
@@ -126,7 +126,7 @@ pub fn give_back<C: Drop, A>(
     ensures connection { OrComesBack (λ c. GivesBackHeld (Some c)) conn result.told }
     ensures order { StaysPrompt result.tried pool.old at.0
         (acts.GiveUp get.number (reason_of reason) (Some conn) broken) (answered answer_of_give_up result.told) }
-    ensures examined { IfOk result.told (λ told. LooksFew 3 result.tried pool.old pool.new) }
+    ensures examined { LooksFew 3 result.tried pool.old pool.new }
     ensures limits { IsWithinLimits pool.old }
 {
     hand_over!(
@@ -136,7 +136,7 @@ pub fn give_back<C: Drop, A>(
     )
 }
 
-/// Gives back a connection that a guard holds, and hands over.
+/// Takes back a connection that a guard holds, with hand-off.
 #[inline(always)]
 pub fn put_back<C: Drop, A>(
     pool: &mut PoolInternals<C, A>,
@@ -150,13 +150,13 @@ pub fn put_back<C: Drop, A>(
     ensures connection { OrComesBack GivesBack conn result.told }
     ensures order { StaysPrompt result.tried pool.old at.0
         (acts.PutBack key.number conn broken) (answered (answer_of_put_back key.number) result.told) }
-    ensures examined { IfOk result.told (λ told. LooksFew 2 result.tried pool.old pool.new) }
+    ensures examined { LooksFew 2 result.tried pool.old pool.new }
     ensures limits { IsWithinLimits pool.old }
 {
     hand_over!(pool, at, pool.put_back(at, key, conn, broken))
 }
 
-/// Lets the connection that a guard holds go for good, and hands over.
+/// Detaches a connection that a guard holds, with hand-off.
 #[inline(always)]
 pub fn detach<C: Drop, A>(
     pool: &mut PoolInternals<C, A>,
@@ -167,13 +167,13 @@ pub fn detach<C: Drop, A>(
         (acts.Detach key.number) result.told pool.new }
     ensures order { StaysPrompt result.tried pool.old at.0
         (acts.Detach key.number) (answered (answer_of_detach key.number) result.told) }
-    ensures examined { IfOk result.told (λ told. LooksFew 2 result.tried pool.old pool.new) }
+    ensures examined { LooksFew 2 result.tried pool.old pool.new }
     ensures limits { IsWithinLimits pool.old }
 {
     hand_over!(pool, at, pool.detach(at, key))
 }
 
-/// Hands in what a claimed approval brought, and hands over.
+/// Reports that the attempt of a claimed approval succeeded, with hand-off.
 #[inline(always)]
 pub fn opened<C: Drop, A>(
     pool: &mut PoolInternals<C, A>,
@@ -186,13 +186,13 @@ pub fn opened<C: Drop, A>(
     ensures connection { OrComesBack HandsBack conn result.told }
     ensures order { StaysPrompt result.tried pool.old at.0
         (acts.Opened key.number conn) (answered (answer_of_opened key.number) result.told) }
-    ensures examined { IfOk result.told (λ told. LooksFew 1 result.tried pool.old pool.new) }
+    ensures examined { LooksFew 1 result.tried pool.old pool.new }
     ensures limits { IsWithinLimits pool.old }
 {
     hand_over!(pool, at, pool.opened(at, key, conn))
 }
 
-/// Adds a connection, and hands over.
+/// Adds a connection, with hand-off.
 #[inline(always)]
 pub fn add<C: Drop, A>(
     pool: &mut PoolInternals<C, A>,
@@ -205,7 +205,7 @@ pub fn add<C: Drop, A>(
     ensures connection { OrComesBack Refuses conn result.told }
     ensures order { StaysPrompt result.tried pool.old at.0
         (acts.Add conn broken) (answered answer_of_add result.told) }
-    ensures examined { IfOk result.told (λ told. LooksFew 0 result.tried pool.old pool.new) }
+    ensures examined { LooksFew 0 result.tried pool.old pool.new }
     ensures limits { IsWithinLimits pool.old }
 {
     hand_over!(pool, at, pool.add(at, conn, broken))

@@ -1,4 +1,4 @@
-//! The core of a connection pool: configuration, locked state, replays of events.
+//! The core of a connection pool: the state behind the lock, its steps, and replays of events.
 #![tactic(auto)]
 
 pub use bb8_types::api;

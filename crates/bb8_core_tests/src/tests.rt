@@ -16,7 +16,7 @@ mod steps;
 mod surface;
 mod threads;
 
-/// Ends the test where what was found is not what is wanted, and prints both.
+/// Ends the test if the found value is not the wanted one, and prints both.
 fn assert_equal<T: PartialEq + Debug + Drop>(rt: &impl Abort, found: T, wanted: T) {
     assert_eq!(rt; found, wanted);
 }
@@ -24,7 +24,7 @@ fn assert_equal<T: PartialEq + Debug + Drop>(rt: &impl Abort, found: T, wanted: 
 /// One second in nanoseconds.
 const SECOND: u64 = 1_000_000_000;
 
-/// A grant that withholds nothing.
+/// Returns a grant that withholds nothing.
 fn granted(first: u64, count: u32) -> Grant {
     Grant {
         first,
@@ -33,7 +33,7 @@ fn granted(first: u64, count: u32) -> Grant {
     }
 }
 
-/// A pool that checks no connection before it hands it out.
+/// Returns settings with the check off.
 fn unchecked(max_size: u32, min_idle: Option<u32>) -> Config {
     Config {
         max_size,
@@ -43,8 +43,8 @@ fn unchecked(max_size: u32, min_idle: Option<u32>) -> Config {
     }
 }
 
-/// A pool of so many connections, of which so many gets were served at once and so many connections
-/// were opened.
+/// Returns the state of a pool with these connections, after this many gets were served at once and
+/// this many connections were opened.
 fn served(connections: u32, idle_connections: u32, gets: u64, created: u64) -> State {
     let statistics = Statistics {
         get_started: gets,

@@ -1,4 +1,4 @@
-//! A manager over a client that blocks: each call of it takes the thread that polls.
+//! A manager for a client that blocks: each of its calls occupies the polling thread.
 use bb8::{
     Builder, MachineClock, NopCustomizer, Pool, PoolCalls, PoolParts, PrintingSink, RunError,
     Runtime, Service,
@@ -8,16 +8,16 @@ use std::thread::Threads;
 use std::time::{Clock, Duration};
 use std::{fmt, thread};
 
-/// How long a call of the client takes.
+/// The duration of a call of the client.
 const CALL_MILLIS: u64 = 2;
 
-/// A connection of a client that has no other calls than those that block.
+/// A connection of a client that has only blocking calls.
 #[derive(Drop)]
 pub struct File {
     reads: u64,
 }
 
-/// The server of the files is down.
+/// The file server is down.
 #[derive(Clone, Copy, Debug, PartialEq, Eq)]
 pub struct Down;
 
@@ -30,14 +30,14 @@ impl fmt::Display for Down {
 /// Opens files.
 #[derive(Drop)]
 pub struct Files<R> {
-    /// What the client waits by.
+    /// The runtime on which the client waits.
     pub rt: R,
     /// Whether the server is down.
     pub is_down: bool,
 }
 
 impl<R> Files<R> {
-    /// Those of a server that is up.
+    /// Returns a manager whose server is up.
     pub fn up(rt: R) -> Files<R> {
         Files { rt, is_down: false }
     }
@@ -48,8 +48,8 @@ impl<R: Clock + Send + Sync + Drop + 'static> BlockingManager for Files<R> {
 
     type Error = Down;
 
-    /// Blocks the driver's thread: other openings and the reaper wait meanwhile, gets do not but
-    /// for what they would be opened.
+    /// Blocks the driver's thread. Other connection attempts and the reaper wait meanwhile; gets do
+    /// not, unless they need a new connection.
     fn connect(&self) -> Result<File, Down> {
         thread::sleep(&self.rt, Duration::from_millis(CALL_MILLIS));
         if self.is_down {
@@ -58,8 +58,8 @@ impl<R: Clock + Send + Sync + Drop + 'static> BlockingManager for Files<R> {
         Ok(File { reads: 0 })
     }
 
-    /// Asks nobody: a check that blocked would hold its get past the deadline. What broke is found
-    /// at use, and told by `has_broken`.
+    /// Makes no call: a check that blocked would hold its get past the deadline. A broken
+    /// connection is found when it is used, and reported by `has_broken`.
     fn is_valid(&self, _file: &mut File) -> Result<(), Down> {
         Ok(())
     }
@@ -75,7 +75,7 @@ struct Reading<R> {
     rt: R,
 }
 
-/// A pool of files, whose errors go to this sink.
+/// A pool of files with this error sink.
 pub type FilePool<S, R, L> = Pool<Blocking<Files<R>>, S, NopCustomizer, MachineClock<R>, R, L>;
 
 impl<R: Runtime + Eprint> Service<
@@ -93,7 +93,7 @@ impl<R: Runtime + Eprint> Service<
         Ok(())
     }
 
-    /// The guard's connection is used in this thread, so a call of it may block.
+    /// Uses the connection in this thread, so its calls may block.
     fn run<L: PoolParts>(&self, pool: &FilePool<PrintingSink<R>, R, L>, _thread: usize) -> u64 {
         let Ok(mut file) = pool.get_blocking() else {
             return 0;
@@ -112,7 +112,7 @@ impl<R: Runtime + Eprint> Service<
     }
 }
 
-/// How many of four threads read a file, by a pool of two.
+/// Returns how many of four threads read a file, over a pool of two connections.
 pub fn reads<R: Runtime + Threads + Eprint>(rt: R, files: Files<R>) -> Result<u64, RunError<Down>> {
     Builder::new()
         .max_size(2)

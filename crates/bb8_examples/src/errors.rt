@@ -1,4 +1,4 @@
-//! The errors of a get, told apart.
+//! How to tell the errors of a get apart.
 use crate::blocking::{Down, FilePool, Files};
 use bb8::{
     Builder, MachineClock, NopCustomizer, NopErrorSink, PoolCalls, PoolParts, RunError, Runtime,
@@ -8,18 +8,18 @@ use bb8_blocking::Blocking;
 use std::thread::Threads;
 use std::time::Duration;
 
-/// What became of a get.
+/// The outcome of a get.
 #[derive(Clone, Copy, Debug, PartialEq, Eq)]
 pub enum Ended {
     /// It was served.
     Served,
-    /// It was not, within `connection_timeout`.
+    /// It was not served within `connection_timeout`.
     TimedOut,
     /// The pool had no memory or no number for it.
     Pool,
 }
 
-/// A get while the only connection is there, and one while it is out.
+/// Makes one get while the only connection is idle, and one while it is checked out.
 #[derive(Drop)]
 struct Twice;
 
@@ -57,8 +57,8 @@ impl<R: Runtime> Service<Blocking<Files<R>>, NopErrorSink, NopCustomizer, Machin
     }
 }
 
-/// What becomes of the two gets of a pool of one connection. No thread runs beside: all is done as
-/// the service ends.
+/// Returns the outcomes of two gets on a pool of one connection. The service has no threads of its
+/// own: both gets are made in its `end`.
 pub fn ends<R: Runtime + Threads>(rt: R) -> Result<(Ended, Ended), RunError<Down>> {
     Builder::new()
         .max_size(1)

@@ -1,5 +1,5 @@
-//! Examples, each a few lines that print: how the errors of a get are told apart, a pool whose
-//! settings are read at run time, a manager over a client that blocks, and a sink that prints.
+//! Examples that print a few lines each: how the errors of a get are told apart, a pool whose
+//! settings are read at run time, a manager for a client that blocks, and a sink that prints.
 //! `tests` tests a manager.
 #![tactic(auto)]
 
@@ -15,7 +15,7 @@ use crate::settings::{SETTINGS, served};
 use bb8::RunError;
 use std::io;
 
-/// What became of a get, in words.
+/// Returns the outcome of a get in words.
 fn word_of(ended: Ended) -> &'static str {
     match ended {
         Ended::Served => "served",

@@ -1,5 +1,4 @@
-//! A pool whose settings are read at run time: they are asked whether a pool can hold to them
-//! before it is built.
+//! A pool whose settings are read at run time: they are checked before it is built.
 use crate::blocking::{Down, FilePool, Files};
 use bb8::{
     Builder, Config, MachineClock, NopCustomizer, NopErrorSink, PoolCalls, PoolParts, RunError,
@@ -8,10 +7,10 @@ use bb8::{
 use bb8_blocking::Blocking;
 use std::thread::Threads;
 
-/// Settings as they might be read: the most connections, and how many are to be idle.
+/// Settings as they might be read: `max_size` and `min_idle`.
 pub const SETTINGS: [(u32, u32); 3] = [(3, 1), (2, 5), (0, 0)];
 
-/// Threads that get once each.
+/// Threads that make one get each.
 #[derive(Drop)]
 struct GetsOnce;
 
@@ -34,7 +33,7 @@ impl<R: Runtime> Service<Blocking<Files<R>>, NopErrorSink, NopCustomizer, Machin
     }
 }
 
-/// How many threads were served by a pool of these settings. None where they are not lawful.
+/// Returns how many threads were served by a pool with these settings. None if they are not lawful.
 pub fn served<R: Runtime + Threads>(
     rt: R,
     size: u32,

@@ -1,4 +1,4 @@
-//! How a manager is tested: alone, and under a pool in one thread, on a clock that the test sets.
+//! How to test a manager: alone, and under a pool in one thread, on a clock that the test sets.
 use crate::blocking::{Down, Files};
 use bb8::{
     Builder, Driver, DriverCalls, Gets, Moment, NopCustomizer, NopErrorSink, Pool, PoolCalls,
@@ -16,14 +16,14 @@ fn server_that_is_down_refuses(rt: HostRuntime) -> Result<(), Fail> {
     Ok(())
 }
 
-/// A get that waits, until a turn of the driver has opened its connection.
+/// A get that waits until a turn of the driver has opened its connection.
 #[derive(Drop)]
 struct WaitingGet {
     task: MockTask,
 }
 
 impl<R: Runtime> User<Blocking<Files<R>>, NopErrorSink, NopCustomizer, SetClock, R> for WaitingGet {
-    /// Whether it was so.
+    /// Whether the get waited, was served, and returned its connection.
     type Outcome = bool;
 
     fn run<L: PoolParts>(

@@ -1,5 +1,5 @@
--- The table of a get's polls, over the relations of any home and of any calls outside. As these are
--- free, the table says which calls are made, how many, and in which order.
+-- The table of a get's polls, over the relations of any home and any user callbacks. These are
+-- parameters, so the table defines which calls are made, how many, and in which order.
 use Rattle.std.specs.Prelude.{◌≡◌, ℕ, ◌+◌, ◌-◌, ◌<◌, ◌≤◌, min, Bool, true, false, Option, Some, None, Result, Ok, Err}
 use Rattle.std.specs.Bool.{MatchBool}
 use Rattle.futures.specs.declared.task.Poll.{Poll}
@@ -34,7 +34,7 @@ use Rattle.bb8_gets.specs.declared.state.Stage.TheVariants.{Fresh, Trying, Waiti
 use Rattle.bb8_types.specs.Bounds.{last_moment}
 use Rattle.bb8_gets.specs.Steps as step
 
--- whether a get that stands so was answered, or let go
+-- whether a get in this state has returned a result or was cancelled
 abbrev pub is_done : {C V P : Type 0} → Stage C V P → Bool
 is_done Fresh = false
 is_done (Trying b) = false
@@ -42,7 +42,7 @@ is_done (Waiting b) = false
 is_done (Checking b held) = false
 is_done Done = true
 
--- whether a get that stands so holds nothing, as it has not begun, or ended
+-- whether a get in this state holds nothing, because it has not begun or has ended
 abbrev pub holds_nothing : {C V P : Type 0} → Stage C V P → Bool
 holds_nothing Fresh = true
 holds_nothing (Trying b) = false
@@ -50,13 +50,13 @@ holds_nothing (Waiting b) = false
 holds_nothing (Checking b held) = false
 holds_nothing Done = true
 
--- the deadline of a get that was first polled at a moment: none, where it is past the greatest
--- moment
+-- whether this is the deadline of a get that was first polled at a moment: None if it is past the
+-- greatest moment
 abbrev pub IsDeadline : Moment → ℕ → Option Moment → Type 0
 IsDeadline m timeout (Some deadline) = deadline.0 ≡ m.0 + timeout
 IsDeadline m timeout None = last_moment < m.0 + timeout
 
--- so long at most, and not past the deadline
+-- at most this long, and not past the deadline
 abbrev pub within : ℕ → Option Moment → ℕ → ℕ
 within most (Some deadline) now = min most (deadline.0 - now)
 within most None now = most
@@ -69,72 +69,72 @@ rest_of (Waiting b) now = within 50000000 b.deadline now
 rest_of (Checking b held) now = within 1000000 b.deadline now
 rest_of Done now = 0
 
--- the connection whose check failed, which is closed
+-- the connection that is closed because its check failed
 abbrev pub closed_in : {C : Type 0} → CheckedErrAnswer C → C
 closed_in (failed.Closed k c grant n) = c
 
 module _ {C E V P X : Type 0} (outside : OutsideOf X C E V) where
-  -- a connection that comes back is asked whether it is broken
+  -- has_broken is called for a connection that is returned
   abbrev pub Asks : Taken C P → X → Returned C P → X → Type 0
   Asks t x r x' = outside.breaks x t.connection r.broken r.taken.connection x' × (r.taken.key ≡ t.key) × (r.taken.part ≡ t.part)
 
 module _ {C E V P H X : Type 0} (home : HomeOf X C P H) (outside : OutsideOf X C E V) where
-  -- after a step a connection is dropped
+  -- a connection is dropped after a step
   abbrev pub DropsAfterStep : C → X → X → Type 0
   DropsAfterStep c x x' = (x1 : X) × home.releases x x1 × outside.lets_go x1 c x'
 
-  -- after the giving up of a get: a connection that was closed is dropped
+  -- after a get gave up: a connection that was closed is dropped
   abbrev pub AfterGiveUp : GiveUpAnswer C → X → X → Type 0
   AfterGiveUp (given_up.GaveUp n) x x' = (x' ≡ x)
   AfterGiveUp (given_up.Kept k n) x x' = (x' ≡ x)
   AfterGiveUp (given_up.Closed k c grant n) x x' = DropsAfterStep c x x'
 
-  -- after the try to give up a get that holds no connection
+  -- after the step that ends a get without a connection
   abbrev pub AfterLeave : Result (GiveUpAnswer C) Unfit → X → X → Type 0
   AfterLeave (Ok a) x x' = AfterGiveUp a x x'
   AfterLeave (Err u) x x' = (x' ≡ x)
 
-  -- after the try to give up a get that holds a connection: one that the home does not take is
-  -- dropped, too
+  -- after the step that ends a get with a connection: one that the home does not take is dropped,
+  -- too
   abbrev pub AfterBack : Result (GiveUpAnswer C) C → X → X → Type 0
   AfterBack (Ok a) x x' = AfterGiveUp a x x'
   AfterBack (Err c) x x' = DropsAfterStep c x x'
 
 module _ {C E V P H X : Type 0} (home : HomeOf X C P H) (outside : OutsideOf X C E V) (m : Moment) where
-  -- a get that holds no connection is given up
+  -- a get that holds no connection ends
   abbrev pub LeavesLine : GetKey → Reason → X → X → Type 0
   LeavesLine g why x x' =
       (a : Result (GiveUpAnswer C) Unfit) × (x1 : X) × home.steps x m (step.GivesUp g why a) x1 × AfterLeave home outside a x1 x'
 
-  -- a get that held a connection is given up
+  -- a get that held a connection ends
   abbrev pub TakesBack : GetKey → Reason → Returned C P → X → X → Type 0
   TakesBack g why r x x' =
       (a : Result (GiveUpAnswer C) C) × (x1 : X) × home.steps x m (step.GivesBack g why r a) x1 × AfterBack home outside a x1 x'
 
-  -- a row leads to this and makes no call
+  -- a row with this outcome that makes no call
   abbrev pub MovesTo : Next C V P E → X → Next C V P E → X → Type 0
   MovesTo to x next x' = (next ≡ to) × (x' ≡ x)
 
-  -- after the failing of a check: the connection is dropped
+  -- after the step for a failed check: the connection is dropped
   abbrev pub AfterFail : Result (CheckedErrAnswer C) C → Open → X → Next C V P E → X → Type 0
   AfterFail (Ok a) b x next x' = DropsAfterStep home outside (closed_in a) x x' × (next ≡ Stand (Trying b))
   AfterFail (Err c) b x next x' = DropsAfterStep home outside c x x' × (next ≡ Answer (Err errors.TimedOut))
 
-  -- a check that failed: the sink has the error, the connection is asked whether it is broken, and
-  -- the home closes it
+  -- a failed check: the sink gets the error, has_broken is called for the connection, and the home
+  -- closes it
   abbrev pub CheckFails : Open → Taken C P → E → X → Next C V P E → X → Type 0
   CheckFails b t e x next x' =
       (x1 : X) × outside.sinks x e x1
       × ((r : Returned C P) × (x2 : X) × Asks outside t x1 r x2
       × ((a : Result (CheckedErrAnswer C) C) × (x3 : X) × home.steps x2 m (step.Fails b.get r a) x3 × AfterFail a b x3 next x'))
 
-  -- after the passing of a check
+  -- after the step for a passed check
   abbrev pub AfterPass : Result (Passed P) Unfit → C → X → Next C V P E → X → Type 0
   AfterPass (Ok p) c x next x' = MovesTo (Answer (Ok (record { key = p.key; connection = c; part = p.part }))) x next x'
   AfterPass (Err u) c x next x' = DropsAfterStep home outside c x x' × (next ≡ Answer (Err errors.TimedOut))
 
-  -- after a poll of a check, which left the connection and the check like this: a check that
-  -- answered ends first
+  -- after a poll of a check, with the connection and the check as it left them: a check with a
+  -- result is dropped first
   abbrev pub AfterCheck : Poll (Result (Unit {0}) E) → Open → CheckUnderWay C V P → X → Next C V P E → X → Type 0
   AfterCheck Pending b held x next x' = MovesTo (Stand (Checking b held)) x next x'
   AfterCheck (Ready (Ok u)) b held x next x' =
@@ -150,7 +150,7 @@ module _ {C E V P H X : Type 0} (home : HomeOf X C P H) (outside : OutsideOf X C
       × outside.check_answers x held.taken.connection held.checking m answer c v x1
       × AfterCheck answer b (record { taken = record held.taken { connection = c }; checking = v }) x1 next x'
 
-  -- after a try: a connection that is to be checked is polled in the same poll
+  -- after a try: a connection that must be checked is polled in the same poll
   abbrev pub AfterTry : Result (Tried C P) Unfit → Open → X → Next C V P E → X → Type 0
   AfterTry (Ok (tried.Served t grant)) b x next x' = MovesTo (Answer (Ok t)) x next x'
   AfterTry (Ok (tried.Taken t grant)) b x next x' =
@@ -174,13 +174,13 @@ module _ {C E V P H X : Type 0} (home : HomeOf X C P H) (outside : OutsideOf X C
   abbrev pub GetStarts : ℕ → X → Next C V P E → X → Type 0
   GetStarts timeout x next x' = (r : Result (FirstTry C P) Unfit) × (x1 : X) × home.steps x m (step.Starts r) x1 × AfterStart r timeout x1 next x'
 
-  -- A get that holds no connection tries while a handle is alive. In a pool that was closed it is
-  -- given up, whatever its deadline.
+  -- A get that holds no connection tries while a handle is alive. If the pool was closed, it ends,
+  -- whatever its deadline.
   abbrev pub Retries : Bool → Open → X → Next C V P E → X → Type 0
   Retries true b x next x' = Tries b x next x'
   Retries false b x next x' = LeavesLine b.get TimedOut x x' × (next ≡ Answer (Err errors.TimedOut))
 
-  -- the rows of each state, where a handle is alive or none is
+  -- the rows of each state, with or without a handle alive
   abbrev pub GetAdvances : Bool → ℕ → Stage C V P → X → Next C V P E → X → Type 0
   GetAdvances alive timeout Fresh x next x' = GetStarts timeout x next x'
   GetAdvances alive timeout (Trying b) x next x' = Retries alive b x next x'
@@ -188,7 +188,7 @@ module _ {C E V P H X : Type 0} (home : HomeOf X C P H) (outside : OutsideOf X C
   GetAdvances alive timeout (Checking b held) x next x' = (x1 : X) × home.releases x x1 × Checks b held x1 next x'
   GetAdvances alive timeout Done x next x' = MovesTo (Stand Done) x next x'
 
-  -- a get gives up, as its deadline came: a connection that it holds is asked whether it is broken
+  -- a get ends because its deadline has passed: has_broken is called for a connection that it holds
   abbrev pub TimesOut : Stage C V P → X → X → Type 0
   TimesOut (Trying b) x x' = LeavesLine b.get TimedOut x x'
   TimesOut (Waiting b) x x' = LeavesLine b.get TimedOut x x'
@@ -198,7 +198,7 @@ module _ {C E V P H X : Type 0} (home : HomeOf X C P H) (outside : OutsideOf X C
   TimesOut Fresh x x' = (x' ≡ x)
   TimesOut Done x x' = (x' ≡ x)
 
-  -- a get stays where it stands
+  -- a get keeps its state
   abbrev pub Stays : Stage C V P → X → Settled C V P E → X → Type 0
   Stays stage x settled x' = (settled.answer ≡ Pending) × (settled.stage ≡ stage) × (x' ≡ x)
 
@@ -216,19 +216,19 @@ module _ {C E V P H X : Type 0} (home : HomeOf X C P H) (outside : OutsideOf X C
   Settles Fresh x settled x' = Stays Fresh x settled x'
   Settles Done x settled x' = Stays Done x settled x'
 
-  -- the end of a poll: an answer is given, and without one the deadline is compared
+  -- the end of a poll: there is a result, or the deadline is compared
   abbrev pub EndsPoll : Next C V P E → X → Settled C V P E → X → Type 0
   EndsPoll (Answer a) x settled x' = (settled.answer ≡ Ready a) × (settled.stage ≡ Done) × (x' ≡ x)
   EndsPoll (Stand stage) x settled x' = Settles stage x settled x'
 
-  -- a first poll, once the home was looked at
+  -- a first poll, after the look
   abbrev pub Starts : ℕ → X → Settled C V P E → X → Type 0
   Starts timeout x settled x' =
       (next : Next C V P E) × (x1 : X) × GetStarts timeout x next x1 × EndsPoll next x1 settled x'
 
 module _ {C E V P H X : Type 0} (home : HomeOf X C P H) (outside : OutsideOf X C E V) where
-  -- A poll of a get that was not answered: the clock is read, the home looked at, the get goes on,
-  -- and it answers or its deadline is compared.
+  -- A poll of a get that is not done: the clock is read, the home looked at, the get continues, and
+  -- it has a result or its deadline is compared.
   abbrev pub Goes : ℕ → Stage C V P → X → Settled C V P E → X → Type 0
   Goes timeout stage x settled x' =
       (at : Moment) × (x1 : X) × outside.tells x at x1
@@ -236,25 +236,25 @@ module _ {C E V P H X : Type 0} (home : HomeOf X C P H) (outside : OutsideOf X C
       × ((next : Next C V P E) × (x3 : X) × GetAdvances home outside seen.moment seen.alive timeout stage x2 next x3
       × EndsPoll home outside seen.moment next x3 settled x'))
 
-  -- The whole poll: what it answers, and the stage, the home and the calls outside then. In Done no
+  -- The whole poll: its result, and the state, the home and the user callbacks after it. In Done no
   -- call is made.
   abbrev pub GetPolls : ℕ → Stage C V P → X → Settled C V P E → X → Type 0
   GetPolls timeout stage x settled x' =
       MatchBool (is_done stage) ((settled.answer ≡ Pending) × (settled.stage ≡ stage) × (x' ≡ x)) (Goes timeout stage x settled x')
 
-  -- a get that began and holds no connection is let go
+  -- a get that has begun and holds no connection is cancelled
   abbrev pub CancelsFree : GetKey → X → X → Type 0
   CancelsFree g x x' = (at : Moment) × (x1 : X) × outside.tells x at x1 × LeavesLine home outside at g Cancelled x1 x'
 
-  -- a get whose connection is being checked is let go
+  -- a get whose connection is being checked is cancelled
   abbrev pub CancelsHeld : GetKey → CheckUnderWay C V P → X → X → Type 0
   CancelsHeld g held x x' =
       (x1 : X) × outside.ends_check x held.checking x1
       × ((r : Returned C P) × (x2 : X) × Asks outside held.taken x1 r x2
       × ((at : Moment) × (x3 : X) × outside.tells x2 at x3 × TakesBack home outside at g Cancelled r x3 x'))
 
-  -- A get that is let go: a connection that it holds is asked whether it is broken, the clock is
-  -- read, and the get is given up as cancelled. In Fresh and Done no call is made.
+  -- A get is cancelled: has_broken is called for a connection that it holds, the clock is read, and
+  -- the get ends as cancelled. In Fresh and Done no call is made.
   abbrev pub Cancels : Stage C V P → X → X → Type 0
   Cancels (Trying b) x x' = CancelsFree b.get x x'
   Cancels (Waiting b) x x' = CancelsFree b.get x x'

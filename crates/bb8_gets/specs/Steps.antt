@@ -1,5 +1,5 @@
--- The steps of gets, guards and handles on their home, each with what it was given and what it
--- answered, and what each is in the words of the ledger.
+-- The steps of gets, guards and handles on their home, each with its arguments and result, and the
+-- events of the ledger that they are.
 use Rattle.std.specs.Prelude.{◌≡◌, ◌≤◌, ℕ, Bool, true, false, Some, None, Result, Ok, Err, IfOk, IfErr}
 use Rattle.circular_buffer.specs.Buffer.{Buffer}
 use Rattle.bb8_types.specs.declared.api.figures.State.{State}
@@ -27,7 +27,7 @@ use Rattle.bb8_tables.specs.declared.closed.Closed.{Closed}
 use Rattle.circular_buffer.specs.Buffer.{Buffer}
 use Rattle.bb8_core.specs.StepAnswers.{answer_of_add, answer_of_checked_err, answer_of_give_up, answer_of_leave, answer_of_look, answer_of_put_back, answer_of_reap, reason_of, GivesBack as GivesBackReturned, GivesBackHeld, GivesBackInvalid, HandsOut, Refuses, answer_of_detach}
 use Rattle.bb8_core.specs.Unfit.{OrComesBack, Stepped}
-use Rattle.bb8_core.specs.StateView.{StateView}
+use Rattle.bb8_core.specs.StateView.{StateView, IsAsBefore}
 use Rattle.bb8_types.specs.Settings.{Settings}
 use Rattle.bb8_gets.specs.Homes.{StepsIn}
 use Rattle.bb8_gets.specs.declared.home.FirstTry.{FirstTry}
@@ -40,7 +40,7 @@ use Rattle.bb8_gets.specs.declared.home.Tried.{Tried}
 use Rattle.bb8_core.specs.declared.answers.Unfit.{Unfit}
 use Rattle.bb8_gets.specs.Told.{in_core, answer_of_passed, answer_of_tried}
 
--- Each step, with what it was given, and its answer.
+-- Each step, with its arguments and its result.
 pub data GetStep (C P H : Type 0) : Type 0 where
   Looks : Looked → GetStep C P H
   Starts : Result (FirstTry C P) Unfit → GetStep C P H
@@ -58,13 +58,13 @@ pub data GetStep (C P H : Type 0) : Type 0 where
   Detaches : Key → P → Result DetachAnswer Unfit → GetStep C P H
   Closes : Buffer (Closed C) → Buffer (Closed C) → Result LeaveAnswer Unfit → GetStep C P H
 
--- the answer to the making of a handle
+-- the result of a join
 abbrev pub joining_told : {H : Type 0} → Joining H → Answer
 joining_told (joining.Joined handle) = answers.Joined
 joining_told joining.Exhausted = answers.Exhausted
 joining_told joining.Unfit = answers.Unfit
 
--- an adding is refused as broken just where the connection was found broken
+-- an add is refused as broken exactly if the connection was found broken
 abbrev pub IsSorted : {C : Type 0} → Bool → AddAnswer C → Type 0
 IsSorted broken (adding.Broken c) = broken ≡ true
 IsSorted broken _ = broken ≡ false
@@ -77,11 +77,12 @@ module _ {C P : Type 0} (Makes : StateView C → ℕ → Act C → Answer → St
       × HandsOut between (in_core t)
   StartsBy s at (Ok first.Memory) s' = Makes s at acts.Begin answers.Memory s'
   StartsBy s at (Ok first.Exhausted) s' = Makes s at acts.Begin answers.Exhausted s'
-  StartsBy s at (Err u) s' = Makes s at acts.Begin answers.Unfit s' × (s' ≡ s)
+  StartsBy s at (Err u) s' = Makes s at acts.Begin answers.Unfit s' × IsAsBefore s s'
 
 module _ {C P H : Type 0} (settings : Settings) where
-  -- a step under the lock of a pool with these settings: the event and its answer, and which
-  -- connection goes out or comes back; a step that does not fit changes nothing
+  -- a step on the state of a pool with these settings: its event and result, and the connection
+  -- that goes out or is returned; a step that does not fit changes only the access
+  -- counter
   abbrev pub StepsBy : StateView C → Moment → GetStep C P H → StateView C → Type 0
   StepsBy s at (Looks seen) s' = StepsIn settings s at.0 acts.Look (answer_of_look seen) s'
   StepsBy s at (Starts r) s' = StartsBy (StepsIn settings) s at.0 r s'

@@ -1,4 +1,4 @@
-//! What the polls of a get make their steps on.
+//! The trait of everything on which the polls of a get make steps.
 ghost use Rattle.std.specs.Prelude.{◌≡◌};
 ghost use Rattle.bb8_types.specs.declared.api.moments.Moment.{Moment as MomentOf};
 ghost use Rattle.bb8_core.specs.declared.answers.CheckedOkAnswer.TheVariants.{Served as IsServed};
@@ -10,47 +10,46 @@ use bb8_core::internals::{
     Grant, Key, LeaveAnswer, Looked, PutBackAnswer, ReapAnswer, Reason, Unfit,
 };
 
-/// A connection that is out, with what goes with it. It cannot be let go but by name.
+/// A checked-out connection with its permit. It has no `Drop`: code must take it apart by name.
 pub struct Taken<C, P> {
     /// The key of the connection.
     pub key: Key,
     /// The connection, which a get or a guard holds from now on.
     pub connection: C,
-    /// What goes with it.
+    /// Its permit.
     pub part: P,
 }
 
-/// What the try of a get answers.
+/// The result of a try.
 pub enum Tried<C, P> {
-    /// The get ended with this connection, which a guard holds from now on, and this was granted.
+    /// The get ended with this connection, which a guard holds from now on; the grant.
     Served(Taken<C, P>, Grant),
-    /// The get holds this connection, which is to be checked, and this was granted.
+    /// The get holds this connection, which must be checked; the grant.
     Taken(Taken<C, P>, Grant),
-    /// The get waits until it is notified, and this was granted.
+    /// The get waits until it is notified; the grant.
     Waiting(Grant),
 }
 
-/// What a get comes to that begins and tries.
+/// The result of a get that begins and tries.
 pub enum FirstTry<C, P> {
-    /// The get began, and its first try told this.
+    /// The get has begun, and this is the result of its first try.
     Tried(GetKey, Tried<C, P>),
-    /// The most gets so far are alive, and memory for one more was refused.
+    /// As many gets are alive as ever were, and memory for one more was refused.
     Memory,
     /// No number is left.
     Exhausted,
 }
 
-/// What the passing of a check answers: the get ended, and a guard holds its connection from now
-/// on.
+/// The result of a passed check: the get ended, and a guard holds its connection from now on.
 pub struct Passed<P> {
     /// The key of the connection.
     pub key: Key,
-    /// What goes with it.
+    /// Its permit.
     pub part: P,
 }
 
 impl<P> Passed<P> {
-    /// This answer of the pool's state, with what goes with the connection.
+    /// Returns a result of the core with the connection's permit.
     pub fn of(answer: CheckedOkAnswer, part: P) -> Self
         ensures served { answer ≡ IsServed result.key }
         ensures part { result.part ≡ part }
@@ -60,61 +59,61 @@ impl<P> Passed<P> {
     }
 }
 
-/// A connection that a get held and its home takes back.
+/// A connection that a get or a guard held and that its home takes back.
 pub struct Returned<C, P> {
-    /// The connection, as `has_broken` left it, and what went with it.
+    /// The connection, as `has_broken` left it, and its permit.
     pub taken: Taken<C, P>,
-    /// What `has_broken` answered.
+    /// The result of `has_broken`.
     pub broken: bool,
 }
 
-/// What the making of a handle answers.
+/// The result of `join`.
 pub enum Joining<H> {
-    /// There is one handle more.
+    /// There is one more handle.
     Joined(H),
-    /// As many handles are alive as may be: 4,294,967,295.
+    /// The maximum of 4,294,967,295 handles is alive.
     Exhausted,
-    /// The step does not fit, as no handle is alive; nothing has changed.
+    /// The step does not fit, because no handle is alive. Nothing has changed.
     Unfit,
 }
 
-/// A home that is let go by a call, after which nothing is made on it.
+/// A home that a call consumes; no step can be made on it afterwards.
 pub trait LetGo {
-    // Holds of a home that may be let go.
+    // Holds of a home that may be consumed.
     ghost goes: { Self → Type 0 };
 
-    /// Lets the home go.
+    /// Consumes the home.
     fn go(self)
         ensures { goes self };
 }
 
-/// The steps that gets, guards and handles make, on connections `C`: what a pool's lock holds is
-/// such a home, and so is the lock.
+/// The steps of gets, guards and handles, on connections of type `C`. The state that a pool keeps
+/// behind its lock is such a home, and so is the lock itself.
 ///
-/// One ghost member relates the home, each step with what it was given and answered, and the home
-/// then. It has no default: what is proved of a get's polls and of sections holds for every choice.
-/// A connection that is closed, or did not fit, is handed back, for whoever made the step to drop
-/// it.
+/// One ghost member relates the home, each step with its arguments and result, and the home after
+/// it. It has no default: what is proved of a get's polls and of critical sections holds for every
+/// choice. A connection that is closed, or whose step did not fit, is returned to the caller, who
+/// must drop it.
 pub trait GetHome<C> {
-    /// What goes with a connection that is handed out.
+    /// The permit of a checked-out connection.
     type Part;
 
     /// A handle that is alive.
     type Handle;
 
-    // Holds of a home, and of the home that is let alone then.
+    // Relates a home before and after it is released.
     ghost releases: { Self → Self → Type 0 };
 
-    // Holds of a home, a moment, a step with what it was given and what it may answer, and the home
-    // then. Of a look the moment is a reading of the clock.
+    // Relates a home, a moment, and a step with its arguments and each possible result, to the home
+    // after it. For `look` the moment is a reading of the clock.
     ghost steps: { Self → MomentOf → GetStep C Self.Part Self.Handle → Self → Type 0 };
 
-    /// Lets the home alone until its next step. It is called between a step and what is then called
-    /// outside: a home that takes a lock for its steps lets go of it here.
+    /// Releases the home until its next step. It is called between a step and the user callback
+    /// after it: a home that acquires a lock for its steps releases it here.
     fn release(&mut self)
         ensures { releases self.old self.new };
 
-    /// The effective moment at this reading of the clock, and whether a handle is alive.
+    /// Returns the effective moment at this reading of the clock, and whether a handle is alive.
     fn look(&mut self, at: Moment) -> Looked
         ensures { steps self.old at (Looks result) self.new };
 
@@ -122,13 +121,13 @@ pub trait GetHome<C> {
     fn start(&mut self, at: Moment) -> Result<FirstTry<C, Self::Part>, Unfit>
         ensures { steps self.old at (Starts result) self.new };
 
-    /// Hands an idle connection to a get, which is served with it or is to check it, or lets the
+    /// Gives a get an idle connection, with which it is served or which it must check; or lets the
     /// get wait.
     fn try_get(&mut self, at: Moment, get: GetKey) -> Result<Tried<C, Self::Part>, Unfit>
         ensures { steps self.old at (Tries get result) self.new };
 
-    /// Serves a get with the connection that it holds, as its check was passed: what goes with the
-    /// connection goes through the home, and is gone where the step does not fit.
+    /// Serves a get with the connection that it holds, because its check passed. The home returns
+    /// the permit; it is lost if the step does not fit.
     fn checked_ok(
         &mut self,
         at: Moment,
@@ -138,8 +137,8 @@ pub trait GetHome<C> {
     ) -> Result<Passed<Self::Part>, Unfit>
         ensures { steps self.old at (Passes get key part result) self.new };
 
-    /// Closes the connection that a get holds, as its check failed; the get is to try again. Where
-    /// the step does not fit, the connection comes back as the error.
+    /// Closes the connection that a get holds, because its check failed; the get must try again. If
+    /// the step does not fit, `Err` has the connection.
     fn checked_err(
         &mut self,
         at: Moment,
@@ -152,8 +151,8 @@ pub trait GetHome<C> {
     fn give_up(&mut self, at: Moment, get: GetKey, reason: Reason) -> Result<GiveUpAnswer<C>, Unfit>
         ensures { steps self.old at (GivesUp get reason result) self.new };
 
-    /// Ends a get that is not served and holds a connection, which is then idle or closed. Where
-    /// the step does not fit, the connection comes back as the error.
+    /// Ends a get that is not served and holds a connection, which becomes idle or is closed. If
+    /// the step does not fit, `Err` has the connection.
     fn give_back(
         &mut self,
         at: Moment,
@@ -163,8 +162,8 @@ pub trait GetHome<C> {
     ) -> Result<GiveUpAnswer<C>, C>
         ensures { steps self.old at (GivesBack get reason returned result) self.new };
 
-    /// Takes back a connection that was out, and what went with it. Where that does not fit, the
-    /// connection comes back as the error, and its part is gone.
+    /// Takes back a checked-out connection and its permit. If the step does not fit, `Err` has the
+    /// connection, and the permit is lost.
     fn put_back(
         &mut self,
         at: Moment,
@@ -172,36 +171,36 @@ pub trait GetHome<C> {
     ) -> Result<PutBackAnswer<C>, C>
         ensures { steps self.old at (PutsBack returned result) self.new };
 
-    /// Adds a connection that no approval brought. Where that does not fit, the connection comes
-    /// back as the error.
+    /// Adds a connection without an approval. If the step does not fit, `Err` has the connection.
     fn add(&mut self, at: Moment, conn: C, broken: bool) -> Result<AddAnswer<C>, C>
         ensures { steps self.old at (Adds conn broken result) self.new };
 
-    /// What the pool tells of itself.
+    /// Returns the size and the statistics of the pool.
     fn state(&mut self, at: Moment) -> State
         ensures { steps self.old at (Shows result) self.new };
 
-    /// Makes one handle more, where one is alive and another may be.
+    /// Adds a handle, if one is alive and the maximum is not reached.
     fn join(&mut self, at: Moment) -> Joining<Self::Handle>
         ensures { steps self.old at (Joins result) self.new };
 
-    /// Takes a handle away. With the last one all idle connections end, and are dropped here, and
+    /// Drops a handle. With the last one all idle connections end, and are dropped here, and so do
     /// all unclaimed approvals.
     fn leave(&mut self, at: Moment, handle: Self::Handle) -> Result<LeaveAnswer, Unfit>
         ensures { steps self.old at (Leaves result) self.new };
 
     /// Retires all connections that there are and all whose connection attempts are under way. Idle
     /// ones are closed and put into the list, in the order in which they are closed; one for which
-    /// it has no room is dropped here. The others are closed when they are returned.
+    /// it has no room is dropped here. Those that are out are closed when they are returned, and
+    /// those of attempts come too late.
     fn retire(&mut self, at: Moment, closed: &mut ClosedList<C>) -> ReapAnswer
         ensures { steps self.old at (Retires closed.old result closed.new) self.new };
-    /// Ends the record of a connection that a guard keeps for good, and takes back what went with
-    /// it, which is gone if the step does not fit.
+    /// Ends the record of a connection that a guard keeps, and takes back its permit, which is lost
+    /// if the step does not fit.
     fn detach(&mut self, at: Moment, key: Key, part: Self::Part) -> Result<DetachAnswer, Unfit>
         ensures { steps self.old at (Detaches key part result) self.new };
 
-    /// Takes all handles away. All idle connections end, and all unclaimed approvals. The
-    /// connections go into a list; those for which it has no room are dropped here.
+    /// Drops all handles. All idle connections and all unclaimed approvals end. The connections are
+    /// moved into a list; those for which it has no room are dropped here.
     fn close(&mut self, at: Moment, closed: &mut ClosedList<C>) -> Result<LeaveAnswer, Unfit>
         ensures { steps self.old at (Closes closed.old closed.new result) self.new };
 }

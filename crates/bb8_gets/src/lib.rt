@@ -1,4 +1,4 @@
-//! A get that is polled: its states, and its polls over any home and any calls outside.
+//! The polls of a get, over any home and any user callbacks.
 #![tactic(auto)]
 
 mod home;

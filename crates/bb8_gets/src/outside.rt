@@ -1,4 +1,4 @@
-//! What gets and guards call outside of the pool's state.
+//! The user callbacks of gets and guards.
 ghost use Rattle.std.specs.Prelude.{Bool, Result};
 ghost use Rattle.futures.specs.declared.task.Poll.{Poll as PollOf};
 ghost use Rattle.bb8_types.specs.declared.api.moments.Moment.{Moment as MomentOf};
@@ -6,38 +6,39 @@ ghost use Rattle.bb8_types.specs.declared.api.moments.Moment.{Moment as MomentOf
 use bb8_core::api::Moment;
 use futures::task::Poll;
 
-/// The calls that gets and guards of connections `C` make of a pool's clock, its manager, whose
-/// errors are `E`, and its error sink, and where connections are let go.
+/// The user callbacks of gets and guards: calls of a pool's clock, its manager and its error sink,
+/// and drops of connections. Connections are `C`, the manager's errors `E`.
 ///
-/// Each call changes the value that it is made of, by a relation that says nothing else and has no
-/// default. So a chain of these relations is the list of all calls, in their order: one that is
-/// made twice, left out or made at another place does not fit it.
+/// Each call changes the value on which it is made, by a relation that says nothing else and has no
+/// default. So a chain of these relations is the list of all calls, in their order: a call that is
+/// made twice, left out or made elsewhere does not satisfy it.
 pub trait Outside<C, E> {
-    /// A check that is being made.
+    /// A check in progress.
     type Checking;
 
-    // Holds before a reading of the clock, of the moment that it tells, and after it.
+    // Relates `self` before a reading of the clock, the moment that it returns, and `self` after
+    // it.
     ghost tells: { Self → MomentOf → Self → Type 0 };
 
-    // Holds before the begin of a check of a connection, of the check, of the connection then, and
-    // after it.
+    // Relates `self` before the begin of a check, the connection, the check, the connection then,
+    // and `self` after it.
     ghost checks: { Self → C → Self.Checking → C → Self → Type 0 };
 
-    // Holds before a poll of a check at a moment, of its answer, of the connection and the check
-    // then, and after it.
+    // Relates `self` before a poll of a check, the connection, the check, the moment of the poll,
+    // its result, the connection and the check then, and `self` after it.
     ghost check_answers: { Self → C → Self.Checking → MomentOf → PollOf (Result (Unit {0}) E) → C → Self.Checking → Self → Type 0 };
 
-    // Holds before a check is ended, and after it.
+    // Relates `self` before the drop of a check, the check, and `self` after it.
     ghost ends_check: { Self → Self.Checking → Self → Type 0 };
 
-    // Holds before a connection is asked whether it is broken, of the answer, of the connection
-    // then, and after it.
+    // Relates `self` before a call of `has_broken`, the connection, the result, the connection
+    // then, and `self` after it.
     ghost breaks: { Self → C → Bool → C → Self → Type 0 };
 
-    // Holds before an error is handed to the sink, and after it.
+    // Relates `self` before a call of the sink, the error, and `self` after it.
     ghost sinks: { Self → E → Self → Type 0 };
 
-    // Holds before a connection is dropped, and after it.
+    // Relates `self` before the drop of a connection, the connection, and `self` after it.
     ghost lets_go: { Self → C → Self → Type 0 };
 
     /// Reads the clock.
@@ -48,7 +49,7 @@ pub trait Outside<C, E> {
     fn is_valid(&mut self, connection: &mut C) -> Self::Checking
         ensures { checks self.old connection.old result connection.new self.new };
 
-    /// Goes on with the check of a connection.
+    /// Polls the check of a connection.
     fn poll_valid(
         &mut self,
         connection: &mut C,
@@ -58,15 +59,15 @@ pub trait Outside<C, E> {
         ensures { check_answers self.old connection.old checking.old moment result connection.new
             checking.new self.new };
 
-    /// Ends a check, which is dropped.
+    /// Drops a check.
     fn end_check(&mut self, checking: Self::Checking)
         ensures { ends_check self.old checking self.new };
 
-    /// Asks whether a connection is broken.
+    /// Returns whether a connection is broken.
     fn has_broken(&mut self, connection: &mut C) -> bool
         ensures { breaks self.old connection.old result connection.new self.new };
 
-    /// Hands an error to the sink.
+    /// Passes an error to the sink.
     fn sink(&mut self, error: E)
         ensures { sinks self.old error self.new };
 

@@ -1,7 +1,6 @@
-//! The rows of the table by which a get is polled: what is called outside and which steps are made,
-//! in their order.
+//! The rows of the table of a get's polls: the steps and user callbacks of each, in their order.
 //!
-//! The home is released between a step and what is then called outside.
+//! The home is released between a step and the user callback after it.
 ghost use Rattle.std.specs.Prelude.{◌≡◌};
 ghost use Rattle.std.specs.Duration.{as_nanos};
 ghost use Rattle.bb8_gets.specs.Polls.{IsDeadline, closed_in, AfterGiveUp, Asks, CheckFails, Checks, AfterTry, Tries, AfterStart, GetStarts, GetAdvances, DropsAfterStep, LeavesLine, Retries, TakesBack, TimesOut, Settles, EndsPoll, Starts, Goes};
@@ -14,8 +13,8 @@ use bb8_core::internals::{CheckedErrAnswer, GetKey, GiveUpAnswer, Looked, Reason
 use futures::task::Poll;
 use std::time::Duration;
 
-/// The moment at which a get gives up that was first polled at `moment`. None, and so never, where
-/// that is past the greatest moment.
+/// Returns the deadline of a get that is first polled at `moment`. None, and so never, if it is
+/// past the greatest moment.
 fn deadline(moment: Moment, timeout: Duration) -> Option<Moment>
     ensures { IsDeadline moment (as_nanos timeout) result }
 {
@@ -23,7 +22,7 @@ fn deadline(moment: Moment, timeout: Duration) -> Option<Moment>
     Some(Moment(moment.0.checked_add(nanos)?))
 }
 
-/// A connection that comes back is asked whether it is broken.
+/// Calls `has_broken` for a connection that is returned.
 pub fn ask<C, V, P, E, X: Outside<C, E, Checking = V>>(
     pool: &mut X,
     taken: Taken<C, P>,
@@ -46,7 +45,7 @@ pub fn ask<C, V, P, E, X: Outside<C, E, Checking = V>>(
     }
 }
 
-/// The dropping of a connection, after a step.
+/// Drops a connection after a step.
 fn drop_it<C, V, P, E, X: GetHome<C, Part = P> + Outside<C, E, Checking = V>>(
     pool: &mut X,
     connection: C,
@@ -57,7 +56,7 @@ fn drop_it<C, V, P, E, X: GetHome<C, Part = P> + Outside<C, E, Checking = V>>(
     pool.let_go(connection);
 }
 
-/// The connection whose check failed, which is closed.
+/// Returns the connection that is closed because its check failed.
 fn closed<C>(answer: CheckedErrAnswer<C>) -> C
     ensures { result ≡ closed_in answer }
 {
@@ -65,7 +64,7 @@ fn closed<C>(answer: CheckedErrAnswer<C>) -> C
     closed
 }
 
-/// A check that failed, with this error.
+/// Handles a check that failed with this error.
 fn fail<C, V, P, E, X: GetHome<C, Part = P> + Outside<C, E, Checking = V>>(
     pool: &mut X,
     moment: Moment,
@@ -89,7 +88,7 @@ fn fail<C, V, P, E, X: GetHome<C, Part = P> + Outside<C, E, Checking = V>>(
     }
 }
 
-/// One poll of a check.
+/// Polls a check once.
 #[inline(always)]
 fn check<C, V, P, E, X: GetHome<C, Part = P> + Outside<C, E, Checking = V>>(
     pool: &mut X,
@@ -146,7 +145,7 @@ fn check<C, V, P, E, X: GetHome<C, Part = P> + Outside<C, E, Checking = V>>(
     }
 }
 
-/// What follows a try: a connection that is to be checked is polled in the same poll.
+/// Handles the result of a try. A connection that must be checked is polled in the same poll.
 #[inline(always)]
 fn tried<C, V, P, E, X: GetHome<C, Part = P> + Outside<C, E, Checking = V>>(
     pool: &mut X,
@@ -178,7 +177,7 @@ fn tried<C, V, P, E, X: GetHome<C, Part = P> + Outside<C, E, Checking = V>>(
     }
 }
 
-/// One try of a get that began.
+/// Makes one try of a get that has begun.
 #[inline(always)]
 fn take<C, V, P, E, X: GetHome<C, Part = P> + Outside<C, E, Checking = V>>(
     pool: &mut X,
@@ -191,8 +190,7 @@ fn take<C, V, P, E, X: GetHome<C, Part = P> + Outside<C, E, Checking = V>>(
     tried(pool, moment, begun, answer)
 }
 
-/// What a get that holds no connection does at a later poll: it tries, or is given up if no handle
-/// is alive.
+/// Makes a later poll of a get that holds no connection: it tries, or ends if no handle is alive.
 #[inline(always)]
 fn retry<C, V, P, E, X: GetHome<C, Part = P> + Outside<C, E, Checking = V>>(
     pool: &mut X,
@@ -208,7 +206,7 @@ fn retry<C, V, P, E, X: GetHome<C, Part = P> + Outside<C, E, Checking = V>>(
     Next::Answer(Err(RunError::TimedOut))
 }
 
-/// What follows the begin of a get and its first try.
+/// Handles the result of a get's begin and first try.
 #[inline(always)]
 pub(crate) fn follow<C, V, P, E, X: GetHome<C, Part = P> + Outside<C, E, Checking = V>>(
     pool: &mut X,
@@ -230,7 +228,7 @@ pub(crate) fn follow<C, V, P, E, X: GetHome<C, Part = P> + Outside<C, E, Checkin
     }
 }
 
-/// What a get does at its first poll: it begins and tries.
+/// Makes the first poll of a get: it begins and tries.
 #[inline(always)]
 fn start<C, V, P, E, X: GetHome<C, Part = P> + Outside<C, E, Checking = V>>(
     pool: &mut X,
@@ -244,7 +242,7 @@ fn start<C, V, P, E, X: GetHome<C, Part = P> + Outside<C, E, Checking = V>>(
     follow(pool, moment, timeout, first)
 }
 
-/// What a get does at a poll before its deadline is compared.
+/// Makes the part of a poll before the deadline is compared.
 fn advance<C, V, P, E, X: GetHome<C, Part = P> + Outside<C, E, Checking = V>>(
     pool: &mut X,
     seen: Looked,
@@ -265,7 +263,7 @@ fn advance<C, V, P, E, X: GetHome<C, Part = P> + Outside<C, E, Checking = V>>(
     }
 }
 
-/// What is left to do once a get was given up: a connection that was closed is dropped.
+/// Handles the result of a get that gave up: drops a connection that was closed.
 fn after<C, V, P, E, X: GetHome<C, Part = P> + Outside<C, E, Checking = V>>(
     pool: &mut X,
     answer: GiveUpAnswer<C>,
@@ -278,7 +276,7 @@ fn after<C, V, P, E, X: GetHome<C, Part = P> + Outside<C, E, Checking = V>>(
     }
 }
 
-/// The giving up of a get that holds no connection.
+/// Ends a get that holds no connection and is not served.
 pub(crate) fn leave<C, V, P, E, X: GetHome<C, Part = P> + Outside<C, E, Checking = V>>(
     pool: &mut X,
     moment: Moment,
@@ -293,7 +291,7 @@ pub(crate) fn leave<C, V, P, E, X: GetHome<C, Part = P> + Outside<C, E, Checking
     }
 }
 
-/// The giving up of a get that held a connection, which was asked already whether it is broken.
+/// Ends a get that held a connection and is not served; `has_broken` has been called already.
 pub(crate) fn take_back<C, V, P, E, X: GetHome<C, Part = P> + Outside<C, E, Checking = V>>(
     pool: &mut X,
     moment: Moment,
@@ -309,7 +307,7 @@ pub(crate) fn take_back<C, V, P, E, X: GetHome<C, Part = P> + Outside<C, E, Chec
     }
 }
 
-/// The deadline came.
+/// Ends a get whose deadline has passed.
 fn time_out<C, V, P, E, X: GetHome<C, Part = P> + Outside<C, E, Checking = V>>(
     pool: &mut X,
     moment: Moment,
@@ -331,7 +329,7 @@ fn time_out<C, V, P, E, X: GetHome<C, Part = P> + Outside<C, E, Checking = V>>(
     }
 }
 
-/// The end of a poll that has no answer yet: the deadline is compared.
+/// Ends a poll without a result: compares the deadline.
 pub(crate) fn settle<C, V, P, E, X: GetHome<C, Part = P> + Outside<C, E, Checking = V>>(
     pool: &mut X,
     moment: Moment,
@@ -358,7 +356,7 @@ pub(crate) fn settle<C, V, P, E, X: GetHome<C, Part = P> + Outside<C, E, Checkin
     }
 }
 
-/// The end of a poll: it answers, or its deadline is compared.
+/// Ends a poll: it has a result, or its deadline is compared.
 #[inline(always)]
 fn end<C, V, P, E, X: GetHome<C, Part = P> + Outside<C, E, Checking = V>>(
     pool: &mut X,
@@ -376,7 +374,7 @@ fn end<C, V, P, E, X: GetHome<C, Part = P> + Outside<C, E, Checking = V>>(
     }
 }
 
-/// A first poll, once the home was looked at.
+/// Makes a first poll, after the `look`.
 #[inline(always)]
 pub(crate) fn begin<C, V, P, E, X: GetHome<C, Part = P> + Outside<C, E, Checking = V>>(
     pool: &mut X,
@@ -390,8 +388,7 @@ pub(crate) fn begin<C, V, P, E, X: GetHome<C, Part = P> + Outside<C, E, Checking
     end(pool, moment, next)
 }
 
-/// One poll of a get that was not answered: the clock is read, the home looked at, and the get goes
-/// on.
+/// Makes a poll of a get that is not done: reads the clock, looks, and continues.
 pub(crate) fn go<C, V, P, E, X: GetHome<C, Part = P> + Outside<C, E, Checking = V>>(
     pool: &mut X,
     timeout: Duration,

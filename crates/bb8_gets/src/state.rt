@@ -1,4 +1,4 @@
-//! Where a get stands, its poll, and its letting go.
+//! The state of a get, its polls, and its cancellation.
 ghost use Rattle.std.specs.Prelude.{◌≡◌, true};
 ghost use Rattle.std.specs.Duration.{as_nanos};
 ghost use Rattle.bb8_gets.specs.Polls.{holds_nothing, is_done, rest_of, AfterStart, EndsPoll, GetPolls, Starts, CancelsFree, CancelsHeld, Cancels};
@@ -13,22 +13,22 @@ use futures::task::Poll;
 use std::mem;
 use std::time::Duration;
 
-/// The nanoseconds after which a get that waits is polled again, rung for or not.
+/// After this many nanoseconds a waiting get is polled again, signalled or not.
 const LONGEST_WAIT: u64 = 50_000_000;
 
-/// The nanoseconds after which a check is polled again.
+/// After this many nanoseconds a check is polled again.
 const LONGEST_CHECK: u64 = 1_000_000;
 
-/// A get that began, and its deadline, which may be none.
+/// A get that has begun, and its deadline, if there is one.
 #[derive(Clone, Copy, Debug)]
 pub struct Begun {
-    /// Which get it is.
+    /// The get.
     pub get: GetKey,
-    /// When it is given up.
+    /// When it times out.
     pub deadline: Option<Moment>,
 }
 
-/// What a get holds while its connection is checked.
+/// A connection in a check.
 pub struct CheckUnderWay<C, V, P> {
     /// The connection.
     pub taken: Taken<C, P>,
@@ -36,23 +36,23 @@ pub struct CheckUnderWay<C, V, P> {
     pub checking: V,
 }
 
-/// Where a get stands between its polls. One that holds a connection cannot be let go but by a step
-/// of its home.
+/// The state of a get between its polls. One that holds a connection can only be ended by a step of
+/// its home.
 pub enum Stage<C, V, P> {
     /// It was not polled yet.
     Fresh,
-    /// A check failed, and it has neither a connection nor a place among the waiters.
+    /// Its check failed; it has neither a connection nor a position in the queue.
     Trying(Begun),
     /// It waits.
     Waiting(Begun),
     /// Its connection is being checked.
     Checking(Begun, CheckUnderWay<C, V, P>),
-    /// It was answered, or cancelled.
+    /// It has returned a result, or was cancelled.
     Done,
 }
 
 impl<C, V, P> Stage<C, V, P> {
-    /// Whether the get was answered, or cancelled.
+    /// Returns whether the get has returned a result or was cancelled.
     fn is_done(&self) -> bool
         ensures { result ≡ is_done self.now }
     {
@@ -63,34 +63,33 @@ impl<C, V, P> Stage<C, V, P> {
     }
 }
 
-/// What a poll does after its steps: it answers, or the get stands somewhere and its deadline is
-/// compared.
+/// The outcome of a poll's steps: a result, or a state whose deadline is compared.
 pub enum Next<C, V, P, E> {
-    /// It answers this.
+    /// The poll returns this result.
     Answer(Result<Taken<C, P>, RunError<E>>),
-    /// The get stands here.
+    /// The get is in this state.
     Stand(Stage<C, V, P>),
 }
 
-/// What a poll answers, and where it leaves the get.
+/// The result of a poll, and the state in which it leaves the get.
 pub struct Settled<C, V, P, E> {
-    /// The answer.
+    /// The result.
     pub answer: Poll<Result<Taken<C, P>, RunError<E>>>,
-    /// The stage then.
+    /// The state.
     pub stage: Stage<C, V, P>,
 }
 
-/// A get of a connection `C`, whose check is a `V`, and which comes with a `P`: what a future of a
-/// get holds beside its pool.
+/// A get: what its future holds beside the pool. Its connection is a `C`, its check a `V`, its
+/// permit a `P`.
 ///
-/// It does nothing until it is polled. It cannot be dropped but by `cancel_step`, as what it holds
-/// goes back to its home.
+/// It does nothing until it is polled. It cannot be dropped, only cancelled by `cancel_step`,
+/// because its home takes back what it holds.
 pub struct GetState<C, V, P> {
     stage: Stage<C, V, P>,
 }
 
 impl<C, V, P> GetState<C, V, P> {
-    /// A get that was not polled yet.
+    /// Returns a get that was not polled yet.
     pub fn new() -> Self
         ensures { result.stage ≡ IsFresh }
     {
@@ -99,7 +98,7 @@ impl<C, V, P> GetState<C, V, P> {
         }
     }
 
-    /// Puts another stage in the place of one that holds nothing.
+    /// Replaces the state by another, if it holds nothing.
     fn stand(&mut self, stage: Stage<C, V, P>)
         requires { holds_nothing self.old.stage ≡ true }
         ensures { self.new ≡ record { stage = stage } }
@@ -110,18 +109,18 @@ impl<C, V, P> GetState<C, V, P> {
         }
     }
 
-    /// One poll of the get over a home; `timeout` is the pool's `connection_timeout`. Upstream's
-    /// get is an async function.
+    /// Polls the get once, on a home. `timeout` is the pool's `connection_timeout`. In bb8 a get is
+    /// an async function.
     ///
     /// It reads the clock once and looks at the home. The first poll begins the get and sets its
-    /// deadline. Each poll tries once at most, or polls the check of the connection that it holds,
-    /// and compares the deadline last. A check that failed hands its error to the sink and closes
-    /// the connection, and the get tries again at the next poll. If no handle is alive any more, it
-    /// is given up then. The home is released before each other call outside.
+    /// deadline. Each poll tries at most once, or polls the check of the connection that it holds,
+    /// and compares the deadline last. If a check fails, the error goes to the sink, the connection
+    /// is closed, and the get tries again at the next poll. If no handle is alive, it ends then.
+    /// The home is released before each user callback.
     ///
-    /// It answers a connection; `TimedOut` once the deadline has come, or where the home knows no
-    /// such get or no handle; `Memory` or `Exhausted` where the get could not begin. After an
-    /// answer each poll is pending, and calls nothing.
+    /// Returns a connection; `TimedOut` after the deadline, or if the home knows no such get or no
+    /// handle; `Memory` or `Exhausted` if the get could not begin. After a result each poll is
+    /// pending and makes no call.
     pub fn poll_step<E, X: GetHome<C, Part = P> + Outside<C, E, Checking = V>>(
         &mut self,
         pool: &mut X,
@@ -139,8 +138,7 @@ impl<C, V, P> GetState<C, V, P> {
         answer
     }
 
-    /// As `poll_step`, with a home of its own, which is let go then. A get that is served at once
-    /// keeps none of it in memory.
+    /// As `poll_step`, but consumes its home. A get that is served at once stores none of it.
     #[inline(always)]
     pub fn poll_with<E, X: GetHome<C, Part = P> + Outside<C, E, Checking = V> + LetGo>(
         &mut self,
@@ -150,8 +148,8 @@ impl<C, V, P> GetState<C, V, P> {
         ensures { (x' : X) × GetPolls X.GetHome X.Outside (as_nanos timeout) self.old.stage pool
             (record { answer = result; stage = self.new.stage }) x' × X.goes x' }
     {
-        // (the other answers stand in places of their own, so that one that is served at once stays
-        // in registers)
+        // (*value-in-memory* in docs/TOOLCHAIN.md: the other results have names and functions of
+        // their own, so that a get that is served at once stays in registers.)
         match &self.stage {
             Stage::Fresh => {
                 self.stand(Stage::Done);
@@ -175,7 +173,7 @@ impl<C, V, P> GetState<C, V, P> {
         }
     }
 
-    /// The rest of a first poll whose get began and tried, with a home of its own.
+    /// Completes a first poll whose get has begun and tried, and consumes its home.
     #[inline(never)]
     fn follow_with<E, X: GetHome<C, Part = P> + Outside<C, E, Checking = V> + LetGo>(
         &mut self,
@@ -204,7 +202,7 @@ impl<C, V, P> GetState<C, V, P> {
         }
     }
 
-    /// As `poll_step`, with a home of its own.
+    /// As `poll_step`, but consumes its home.
     #[inline(never)]
     fn go_on<E, X: GetHome<C, Part = P> + Outside<C, E, Checking = V> + LetGo>(
         &mut self,
@@ -219,7 +217,7 @@ impl<C, V, P> GetState<C, V, P> {
         answer
     }
 
-    /// A first poll from a moment on at which its home was looked at: the get begins and tries.
+    /// Makes a first poll at the moment of a `look` made before: the get begins and tries.
     #[inline(always)]
     pub fn start_step<E, X: GetHome<C, Part = P> + Outside<C, E, Checking = V>>(
         &mut self,
@@ -236,9 +234,9 @@ impl<C, V, P> GetState<C, V, P> {
         answer
     }
 
-    /// How long a thread may sleep after a poll that was pending, before it polls the get again:
-    /// not past the get's deadline, and one that waits at most 50 milliseconds, one whose
-    /// connection is checked a millisecond.
+    /// Returns how long a thread may sleep after a pending poll before it polls the get again: not
+    /// past the deadline, at most 50 milliseconds while it waits, and at most one millisecond while
+    /// its connection is checked.
     pub fn rest(&self, now: Moment) -> Duration
         ensures { as_nanos result ≡ rest_of self.now.stage now.0 }
     {
@@ -254,10 +252,9 @@ impl<C, V, P> GetState<C, V, P> {
         Duration::from_nanos(most.min(left))
     }
 
-    /// Lets the get go: one that began and was not answered is given up as cancelled, at a reading
-    /// of the clock. A connection that it holds is asked first whether it is broken. Nothing is
-    /// called where it was not polled yet, or was answered. The same as a drop of a get's future.
-    /// Upstream's caller drops its future.
+    /// Cancels the get, if it has begun and has no result, at a reading of the clock. If it holds a
+    /// connection, `has_broken` is called first. No call is made if it was not polled yet or has a
+    /// result. This is what a drop of its future does; in bb8 the caller drops the future.
     pub fn cancel_step<E, X: GetHome<C, Part = P> + Outside<C, E, Checking = V>>(self, pool: &mut X)
         ensures { Cancels X.GetHome X.Outside self.stage pool.old pool.new }
     {
@@ -271,7 +268,7 @@ impl<C, V, P> GetState<C, V, P> {
         }
     }
 
-    /// As `cancel_step`, with a home of its own, which is dropped then.
+    /// As `cancel_step`, but consumes its home.
     #[inline(always)]
     pub fn cancel_with<E, X: GetHome<C, Part = P> + Outside<C, E, Checking = V> + LetGo>(
         self,
@@ -287,7 +284,7 @@ impl<C, V, P> GetState<C, V, P> {
     }
 }
 
-/// Lets a get go that began, with a home of its own.
+/// Cancels a get that has begun, and consumes its home.
 #[inline(never)]
 fn cancel_begun<C, V, P, E, X: GetHome<C, Part = P> + Outside<C, E, Checking = V> + LetGo>(
     mut pool: X,
@@ -299,7 +296,7 @@ fn cancel_begun<C, V, P, E, X: GetHome<C, Part = P> + Outside<C, E, Checking = V
     pool.go();
 }
 
-/// Lets a get go that began and holds no connection.
+/// Cancels a get that has begun and holds no connection.
 #[inline(never)]
 fn cancel_free<C, V, P, E, X: GetHome<C, Part = P> + Outside<C, E, Checking = V>>(
     pool: &mut X,
@@ -311,7 +308,7 @@ fn cancel_free<C, V, P, E, X: GetHome<C, Part = P> + Outside<C, E, Checking = V>
     leave(pool, at, get, Reason::Cancelled);
 }
 
-/// Lets a get go whose connection is being checked.
+/// Cancels a get whose connection is being checked.
 #[inline(never)]
 fn cancel_held<C, V, P, E, X: GetHome<C, Part = P> + Outside<C, E, Checking = V>>(
     pool: &mut X,
@@ -330,7 +327,7 @@ fn cancel_held<C, V, P, E, X: GetHome<C, Part = P> + Outside<C, E, Checking = V>
 impl<C, V, P> Default for GetState<C, V, P> {
     ghost is_default = { λ get. get.stage ≡ IsFresh };
 
-    /// A get that was not polled yet.
+    /// Returns a get that was not polled yet.
     fn default() -> Self {
         GetState::new()
     }

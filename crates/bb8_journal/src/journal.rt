@@ -1,5 +1,5 @@
-//! What several threads did to one pool: a history of all their events, kept under one lock with
-//! the state that they lead to.
+//! The steps of several threads on one pool: the history of all events, kept under one lock with
+//! the state that results.
 
 mod audits;
 mod entries;

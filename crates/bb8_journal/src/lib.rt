@@ -1,4 +1,4 @@
-//! What several threads did to one pool: a history that replays, and its audit.
+//! The steps of several threads on one pool: a history that can be replayed, and its audit.
 #![tactic(auto)]
 
 pub mod journal;

@@ -1,6 +1,6 @@
 -- Which row of the step table an answer is, as a function that computes: so a worked row is settled
 -- by evaluation.
-use Rattle.bb8_ledger.proofs.Words.{◌≡◌, ◌≢◌, ℕ, suc, ◌+◌, ◌-◌, ◌<◌, ◌≤◌, min, max, Bool, true, false, eqb, ltb, leb, cond, List, [], ◌∷◌, Option, Some, None, is_some, option_map, slice_get, length, refl, ap, sym, subst, false≢true, eqb-true, eqb-false, ltb-true, leb-true, leb-false, Grant, Standing, Guarded, Held, Numbered, one, after_end, Act, Begin, Try, CheckedOk, CheckedErr, GiveUp, PutBack, Detach, Fill, Ask, Claim, Opened, Failed, Add, Reap, Retire, Join, Leave, Close, Look, Answer, Begun, Memory, Exhausted, Served, Taken, Kept, Closed, GaveUp, Granted, Ended, Entered, Late, GivenBack, Added, Broken, NoCapacity, Withheld, Reaped, Joined, Left, Looked, Unfit, with_ended, Ledger, Later, start, latest, records, handles, next, next_get, conns, approved, conns_of, approved_of, idle_of, alive, idle_count, first_idle, oldest_waiter, unclaimed, peak, get_peak, get_of, at_place, figures, opening_with, asks_check, gets_stand, holds, is_unnotified, is_notified, Row, begins, begin_refused, begin_exhausted, waits_on, serves, takes_out, waits, checks, check_fails, gives_up, gives_up_kept, gives_up_closed, keeps, returns_closed, detaches, fills, asks_for, unprovided, claims, claim_ended, opens, opens_late, fails, add_broken, add_full, add_exhausted, add_refused, adds, reap_ended, reaps, retire_ended, retires, retired_at, joins, join_exhausted, leaves, shuts, looks, IsWant, fits, with_record, closes, reaped_at, outlived_at, idled_at, leave_count, IsGranted, IsNoGrant, numbers_left, due, lacking, Settings, is_lawful, Figures, Told, AreAllowed, IsRow, first_waits, IsBackOff, IsMostWaits, sum_of_waits, end_of_numbers, most_handles, Waiting, Claimed, after, is_doubtful}
+use Rattle.bb8_ledger.proofs.Words.{◌≡◌, ◌≢◌, ℕ, suc, ◌+◌, ◌-◌, ◌<◌, ◌≤◌, min, max, Bool, true, false, eqb, ltb, leb, cond, List, [], ◌∷◌, Option, Some, None, is_some, option_map, slice_get, length, refl, ap, sym, subst, false≢true, eqb-true, eqb-false, ltb-true, leb-true, leb-false, Grant, Standing, Guarded, Held, Numbered, one, after_end, Act, Begin, Try, CheckedOk, CheckedErr, GiveUp, PutBack, Detach, Fill, Ask, Claim, Opened, Failed, Add, Reap, Retire, Join, Leave, Close, Look, Answer, Begun, Memory, Exhausted, Served, Taken, Kept, Closed, GaveUp, Granted, Ended, Entered, Late, GivenBack, Added, Broken, NoCapacity, Withheld, Reaped, Joined, Left, Looked, Unfit, with_ended, Ledger, Later, start, latest, records, handles, next, next_get, conns, approved, conns_of, approved_of, idle_of, alive, idle_count, first_idle, oldest_waiter, unclaimed, peak, get_peak, get_of, at_place, figures, opening_with, asks_check, gets_stand, holds, is_unnotified, is_notified, Row, begins, begin_refused, begin_exhausted, waits_on, serves, takes_out, waits, checks, check_fails, gives_up, gives_up_kept, gives_up_closed, keeps, returns_closed, detaches, fills, asks_for, unprovided, claims, claim_ended, opens, opens_late, fails, add_broken, add_full, add_exhausted, add_refused, adds, reap_ended, reaps, retire_ended, retires, retired_at, joins, join_exhausted, leaves, shuts, looks, IsWant, fits, with_record, closes, comes_late, reaped_at, outlived_at, idled_at, leave_count, IsGranted, IsNoGrant, numbers_left, due, lacking, Settings, is_lawful, Figures, Told, AreAllowed, IsRow, first_waits, IsBackOff, IsMostWaits, sum_of_waits, end_of_numbers, most_handles, Waiting, Claimed, after, is_doubtful}
 use Rattle.std.specs.Bool.{MatchBool}
 
 -- ---- tests, and what follows from what each tells
@@ -119,8 +119,8 @@ module _ {C : Type 0} where
       (due (start l).config (handles l) (conns l + approved l) (unprovided l)) grant (λ asked. Some (asks_for asked))
   row_of l at Claim (Claimed k) = when_less 0 (handles l) (λ open_now. when_both (slice_get (unclaimed l) 0) k (λ first. Some (claims open_now first)))
   row_of l at Claim Ended = when_same (handles l) 0 (λ none. Some (claim_ended none))
-  row_of l at (Opened k c) (Entered m n) = moved m k (λ q. Row l at (Opened k c) (Entered q n)) (when_less 0 (handles l) (λ open_now. when_told l n (λ is. Some (opens open_now is))))
-  row_of l at (Opened k c) (Late m) = moved m k (λ q. Row l at (Opened k c) (Late q)) (when_same (handles l) 0 (λ none. Some (opens_late none)))
+  row_of l at (Opened k c) (Entered m n) = moved m k (λ q. Row l at (Opened k c) (Entered q n)) (unless (comes_late l k) (λ in_time. when_told l n (λ is. Some (opens in_time is))))
+  row_of l at (Opened k c) (Late m) = moved m k (λ q. Row l at (Opened k c) (Late q)) (when (comes_late l k) (λ late. Some (opens_late late)))
   row_of l at (Failed k) GivenBack = Some fails
   row_of l at (Add c true) Broken = Some add_broken
   row_of l at (Add c false) NoCapacity = when_same (conns l + approved l) (start l).config.max_size (λ full. Some (add_full full))

@@ -93,7 +93,7 @@ module _ {C : Type 0} where
       turned_idle l k j _ c _ (hands_in_turn l at g k c legal holds_it) (let same : k ≡ j = cc in same)
   row_brought l at _ _ j legal f (keeps {k} {c} keep is) brought =
       turned_idle l k j _ c _ (returns_turn l at k c f) (let same : k ≡ j = cc in same)
-  row_brought l at _ _ j legal f (opens {k} {c} open_now is) brought =
+  row_brought l at _ _ j legal f (opens {k} {c} in_time is) brought =
       turned_idle l k j _ c _ (opens_turn l at k c f) (let same : k ≡ j = cc in same)
   row_brought l at _ _ j legal f (adds {k} {c} room few is who) brought =
       let same : k ≡ j = cc in
@@ -442,7 +442,7 @@ module _ {C : Type 0} where
   row_told l at _ _ g f (keeps {n = n} keep is) told = told_is (start l).first_get (position l) n (gets l) g is told
   row_told l at _ _ g f (returns_closed {n = n} shut want is) told = told_is (start l).first_get (position l) n (gets l) g is told
   row_told l at _ _ g f (detaches {n = n} want is) told = told_is (start l).first_get (position l) n (gets l) g is told
-  row_told l at _ _ g f (opens {n = n} open_now is) told = told_is (start l).first_get (position l) n (gets l) g is told
+  row_told l at _ _ g f (opens {n = n} in_time is) told = told_is (start l).first_get (position l) n (gets l) g is told
   row_told l at _ _ g f (adds {n = n} room few is who) told = told_is (start l).first_get (position l) n (gets l) g who told
   row_told l at _ _ g f _ told = cc
 

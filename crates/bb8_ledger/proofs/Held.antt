@@ -206,8 +206,8 @@ module _ {C : Type 0} where
   row_hands l at _ _ h f (fills {claimed} {grant} want) = record { gets = λ g. refl; had = tt; conns = granted l claimed grant.count (records l); from = tt }
   row_hands l at _ _ h f (asks_for {grant} asked) = record { gets = λ g. refl; had = tt; conns = granted l false grant.count (records l); from = tt }
   row_hands l at _ _ h f (claims {k = Some j} open_now first) = record { gets = λ g. refl; had = tt; conns = λ k. kept_holder k (unclaimed_turns l j first) refl refl; from = tt }
-  row_hands l at _ _ h f (opens {k = j} {c} {n} open_now is) = record { gets = told l n is; had = tt; conns = λ k. kept_holder k (opens_turn l at j c f) refl refl; from = tt }
-  row_hands l at _ _ h f (opens_late {k = j} none) = record { gets = λ g. refl; had = tt; conns = λ k. kept_holder k (ends_turn l j f) refl refl; from = tt }
+  row_hands l at _ _ h f (opens {k = j} {c} {n} in_time is) = record { gets = told l n is; had = tt; conns = λ k. kept_holder k (opens_turn l at j c f) refl refl; from = tt }
+  row_hands l at _ _ h f (opens_late {k = j} late) = record { gets = λ g. refl; had = tt; conns = λ k. kept_holder k (ends_turn l j f) refl refl; from = tt }
   row_hands l at _ _ h f (fails {k = j}) = record { gets = λ g. refl; had = tt; conns = λ k. kept_holder k (ends_turn l j f) refl refl; from = tt }
   row_hands l at _ _ h f (adds {c} {n} room few is who) =
       record { gets = told l n who; had = tt; conns = λ k. appended_same holder (records l) (start l).first k (entry c (max (latest l) at) (max (latest l) at) (position l)) refl; from = tt }

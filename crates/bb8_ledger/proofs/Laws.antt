@@ -1,5 +1,5 @@
 -- What holds of every legal ledger: the limits, the laws, and the promises to those who wait.
-use Rattle.bb8_ledger.proofs.Words.{Place, stands, one, ◌≡◌, ◌⊎◌, ℕ, suc, ◌+◌, ◌-◌, ◌<◌, ◌≤◌, max, min, true, false, Option, Some, sym, ap, ◌∙◌, inl, inr, arith, subst, is_some, Standing, Getting, is_lawful, Counts, Act, Try, GiveUp, Answer, update, after_end, Ledger, Opening, Later, start, position, latest, records, gets, handles, next, next_get, conns, approved, idle_count, alive, notified, unnotified, oldest_waiter, record_of, get_of, with_notice, counts, is_conn, is_approval, is_out, gets_stand, is_unnotified, is_trying, Row, begins, waits_on, serves, takes_out, waits, checks, check_fails, gives_up, gives_up_kept, gives_up_closed, keeps, returns_closed, detaches, opens, adds, IsLegal, fits, KeepsLimits, KeepsLaws, KeepsPromises, NeverForgets, MayLower, lost, and_right, conn_from, Claimed, asks_check, ◌&&◌, Bool, ltb, leb, not, refl}
+use Rattle.bb8_ledger.proofs.Words.{Place, stands, one, ◌≡◌, ◌⊎◌, ℕ, suc, ◌+◌, ◌-◌, ◌<◌, ◌≤◌, max, min, true, false, Option, Some, sym, ap, ◌∙◌, inl, inr, arith, subst, is_some, Standing, Getting, is_lawful, Counts, Act, Try, GiveUp, Answer, update, after_end, Ledger, Opening, Later, start, position, latest, retired, records, gets, handles, next, next_get, conns, approved, idle_count, alive, notified, unnotified, oldest_waiter, record_of, get_of, with_notice, counts, is_conn, is_approval, is_out, gets_stand, is_unnotified, is_trying, Row, begins, waits_on, serves, takes_out, waits, checks, check_fails, gives_up, gives_up_kept, gives_up_closed, keeps, returns_closed, detaches, opens, adds, IsLegal, fits, KeepsLimits, KeepsLaws, KeepsPromises, NeverForgets, MayLower, lost, and_right, conn_from, Claimed, asks_check}
 use Rattle.bb8_types.proofs.Numbered as numbered
 use Rattle.bb8_ledger.proofs.Facts.{conns_split, waited_before}
 use Rattle.bb8_ledger.proofs.Waiters.{changed_tally, getting_is, alive_counted, InLine, line_later, line_begun, line_begins, line_notified, line_given_up}
@@ -11,6 +11,7 @@ pub use Rattle.bb8_ledger.proofs.GetEffects.{alive_get, waits_on_gets}
 use Rattle.bb8_ledger.proofs.Places.{always_keeps_places}
 use Rattle.bb8_ledger.proofs.Wants.{either_none, makes_good}
 use Rattle.bb8_ledger.proofs.Reaps.{never_reaps_twice}
+use Rattle.bb8_ledger.proofs.Retired.{AreFrom, from, row_from, row_few}
 use Rattle.bb8_ledger.proofs.Held.{all_held, all_holding, never_twice, never_unchecked}
 
 -- The sizes and the statistics of a ledger fit together.
@@ -61,6 +62,19 @@ module _ {C : Type 0} where
   pub all_serve : (l : Ledger C) → IsLegal l → Serves l
   all_serve = each_legal Serves (λ s lawful. omega arith) (λ l at e h. omega arith) (λ l at e a legal f row h. (row_sums l at e a legal f row).serves (all_fit l legal).size h)
 
+  -- ---- what is retired
+
+  -- all that is had a number, and none of it is idle
+  abbrev NoneRetired : Ledger C → Type 0
+  NoneRetired l = (retired l ≤ next l) × AreFrom (retired l) (start l).first (records l)
+
+  none_retired : (l : Ledger C) → IsLegal l → NoneRetired l
+  none_retired = each_legal NoneRetired (λ s lawful. (omega arith, tt)) (λ l at e h. h)
+      (λ l at e a legal f row h. (
+        row_few l at e a row (omega (arith, (row_sums l at e a legal f row).gives.more)) h.0,
+        row_from l at e a row h.0 (λ none. omega (arith, none, (all_serve l legal).none_idle)) h.1,
+      ))
+
   -- ---- the limits
 
   pub keeps_limits : (l : Ledger C) → IsLegal l → KeepsLimits l
@@ -70,6 +84,7 @@ module _ {C : Type 0} where
     held = λ g k. (all_held l legal g k, all_holding l legal g k);
     served = elim (either_none (unnotified l) (idle_count l - notified l) (all_serve l legal).served) [ inl e ↦ inl e | inr e ↦ inr (omega arith) ];
     none_idle = λ none. omega (arith, none, (all_serve l legal).none_idle);
+    unretired = λ k idle. from (retired l) (start l).first k (records l) (none_retired l legal).1 idle;
   }
 
   -- ---- the laws
@@ -120,7 +135,7 @@ module _ {C : Type 0} where
   row_in_line l at _ _ f (keeps {n} keep is) i = told_in_line l n is i
   row_in_line l at _ _ f (returns_closed {n} shut want is) i = told_in_line l n is i
   row_in_line l at _ _ f (detaches {n} want is) i = told_in_line l n is i
-  row_in_line l at _ _ f (opens {n} open_now is) i = told_in_line l n is i
+  row_in_line l at _ _ f (opens {n} in_time is) i = told_in_line l n is i
   row_in_line l at _ _ f (adds {n} room few is who) i = told_in_line l n who i
   row_in_line l at _ _ f _ i = line_later (start l).first_get (position l) (gets l) i
 

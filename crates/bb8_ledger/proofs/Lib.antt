@@ -11,6 +11,7 @@ pub mod Invalid
 pub mod Wants
 pub mod Places
 pub mod Reaps
+pub mod Retired
 pub mod Laws
 pub mod Handed
 pub mod Evaluated

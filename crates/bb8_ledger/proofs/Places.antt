@@ -145,7 +145,7 @@ module _ {C : Type 0} where
   row_waited l at _ _ g y f (keeps {n = n} keep is) hy on = inl (told_waited (start l).first_get (position l) g n (gets l) y is hy on)
   row_waited l at _ _ g y f (returns_closed {n = n} shut want is) hy on = inl (told_waited (start l).first_get (position l) g n (gets l) y is hy on)
   row_waited l at _ _ g y f (detaches {n = n} want is) hy on = inl (told_waited (start l).first_get (position l) g n (gets l) y is hy on)
-  row_waited l at _ _ g y f (opens {n = n} open_now is) hy on = inl (told_waited (start l).first_get (position l) g n (gets l) y is hy on)
+  row_waited l at _ _ g y f (opens {n = n} in_time is) hy on = inl (told_waited (start l).first_get (position l) g n (gets l) y is hy on)
   row_waited l at _ _ g y f (adds {n = n} room few is who) hy on = inl (told_waited (start l).first_get (position l) g n (gets l) y who hy on)
   row_waited l at _ _ g y f _ hy on = inl (y, hy, refl, on)
 

@@ -62,7 +62,7 @@ module _ {C : Type 0} where
   none_later s m now rs b none = grind (arith, numbered.in_order-later (over_idle_at s.config now) rs s.first m (over_idle_before s.config now m rs b), over_idle_before s.config now m rs b)
 
   -- so a reap leaves nothing to end at its moment
-  reaped_none : (s : Start) (m now n : ℕ) (rs : List (Numbered (Standing C))) → NoneDue s m now (with_approvals false n (with_ended s.first (reaped s m now rs) rs))
+  pub reaped_none : (s : Start) (m now n : ℕ) (rs : List (Numbered (Standing C))) → NoneDue s m now (with_approvals false n (with_ended s.first (reaped s m now rs) rs))
   reaped_none s m now n rs =
       let then : List (Numbered (Standing C)) = with_ended s.first (outlived s now rs) rs in
       let ks : List ℕ = idled s m now then in

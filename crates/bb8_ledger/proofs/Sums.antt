@@ -37,6 +37,11 @@ kept_open false true n kept = cc
 kept_open false false zero kept = cc
 kept_open false false (suc n) kept = omega arith
 
+-- what comes in time comes while a handle is alive
+open_in_time : (handles : ℕ) (r : Bool) → (eqb handles 0 || r) ≡ false → 0 < handles
+open_in_time zero r in_time = cc
+open_in_time (suc n) r in_time = omega arith
+
 -- a served get counts once
 either_one : (b : Bool) → one (not b) + one b ≡ 1
 either_one true = refl
@@ -234,8 +239,8 @@ module _ {C : Type 0} where
     none_or_some (notified l) 0 (unasked l),
   )
   row_sums l at _ _ legal f (claims {k = Some k} open_now first) = omega (arith, turned_sized (unclaimed_turns l k first))
-  row_sums l at _ _ legal f (opens {k} {c} {n} open_now is) = omega (arith, turned_sized (opens_turn l at k c f), told_sums l n is, some_told l n is)
-  row_sums l at _ _ legal f (opens_late {k} none) = omega (arith, turned_sized (ends_turn l k f))
+  row_sums l at _ _ legal f (opens {k} {c} {n} in_time is) = omega (arith, open_in_time (handles l) (ltb k (retired l)) in_time, turned_sized (opens_turn l at k c f), told_sums l n is, some_told l n is)
+  row_sums l at _ _ legal f (opens_late {k} late) = omega (arith, turned_sized (ends_turn l k f))
   row_sums l at _ _ legal f (fails {k}) = omega (arith, turned_sized (ends_turn l k f))
   row_sums l at _ _ legal f (adds {k} {c} {n} room few is who) = omega (arith, is_open (handles l) f, adds_sized l at c, told_sums l n who, some_told l n who)
   row_sums l at _ _ legal f (reaps {closed} {by_idle} {by_life} {grant} open_now closed_is by_idle_is by_life_is want) =

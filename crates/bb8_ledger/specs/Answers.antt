@@ -1,9 +1,10 @@
--- What a pool answers.
+-- The results of events.
 use Rattle.std.specs.Prelude.{ℕ, Bool, Option}
 use Rattle.bb8_types.specs.declared.grants.Grant.{Grant}
 use Rattle.bb8_types.specs.Figures.{Figures}
 
--- Each kind of answer. Kept, Closed, GaveUp, Entered and Added tell last which get was notified.
+-- The kinds of results. In Kept, Closed, GaveUp, Entered and Added the last field is the get that
+-- was notified.
 pub data Answer : Type 0 where
   Begun : ℕ → Answer
   Memory : Answer

@@ -1,5 +1,5 @@
--- Handing over: in which order gets are served, where the notified get that waits longest tries as
--- soon as a connection is idle.
+-- Hand-off: the order in which gets are served if the notified get that waits longest tries as soon
+-- as a connection is idle.
 use Rattle.std.specs.Prelude.{◌≡◌, ◌≢◌, ◌⊎◌, ◌+◌, ◌-◌, ◌<◌, ◌≤◌, ℕ, suc, true, Bool, ◌&&◌, cond, eqb, ltb, slice_get, Option, Some, None, is_some, ⊤}
 use Rattle.std.specs.Option.{IfSome}
 use Rattle.bb8_types.specs.declared.standing.Getting.{Getting}
@@ -10,7 +10,7 @@ use Rattle.bb8_ledger.specs.Answers.{Answer, Served, Taken, Waiting, Kept, Close
 use Rattle.bb8_ledger.specs.Ledger.{Ledger, Opening, Later, start, position, handles, conns, approved, gets, idle_count, unnotified, notified, get_of, numbered_get}
 use Rattle.bb8_ledger.specs.Limits.{lost, lost_by, WaitsSince}
 
--- the get that an answer notifies
+-- the get that a result notifies
 abbrev pub told_by : Answer → Option ℕ
 told_by (Kept k n) = n
 told_by (Closed k grant n) = n
@@ -19,27 +19,27 @@ told_by (Entered k n) = n
 told_by (Added k n) = n
 told_by _ = None
 
--- the connection that an answer says became idle
+-- the connection that became idle with a result
 abbrev pub brought_by : Answer → Option ℕ
 brought_by (Kept k n) = Some k
 brought_by (Entered k n) = Some k
 brought_by (Added k n) = Some k
 brought_by _ = None
 
--- what the try of who was notified comes to: it goes out with the connection that was brought, and
--- where none was brought it waits
+-- whether the try of a notified get matches what became idle: it takes that connection, or waits if
+-- there was none
 abbrev pub GoesWith : Option ℕ → Answer → Type 0
 GoesWith (Some k) (Served j grant) = j ≡ k
 GoesWith (Some k) (Taken j grant) = j ≡ k
 GoesWith None (Waiting grant) = ⊤
 GoesWith _ _ = ⊥
 
--- behind the place of a get that was notified; where it was not, as before
+-- one past the position of a get if it was notified, else `before`
 abbrev pub past : Option (Numbered Getting) → ℕ → ℕ
 past None before = before
 past (Some a) before = cond (gets_stand is_notified a.standing) (suc a.position) before
 
--- a get that waits since this position and was notified
+-- whether a get was notified and waits since position p
 abbrev pub notified_at : ℕ → Numbered Getting → Bool
 notified_at p g = gets_stand is_notified g.standing && eqb g.position p
 
@@ -56,7 +56,7 @@ module _ {C : Type 0} where
   just_brought (Later l at e Unfit) = just_brought l
   just_brought (Later l at e a) = brought_by a
 
-  -- how many gets wait, notified or not
+  -- the count of waiters, notified or not
   abbrev pub waiters : Ledger C → ℕ
   waiters l = unnotified l + notified l
 
@@ -64,50 +64,49 @@ module _ {C : Type 0} where
   abbrev pub oldest_notified : Ledger C → Option ℕ
   oldest_notified l = slice_get (in_order notified_at (start l).first_get (gets l) (position l)) 0
 
-  -- the get whose try is due: where a connection is idle, the notified one that waits longest
+  -- the get whose try is due: if a connection is idle, the notified get that waits longest
   abbrev pub due_try : Ledger C → Option ℕ
   due_try l = cond (eqb (idle_count l) 0) None (oldest_notified l)
 
-  -- A history that hands over: where a try is due, it comes next. Events that do not fit change
-  -- nothing, and are not looked at.
+  -- Whether a history has hand-off: if a try is due, it is the next event. Events that do not fit
+  -- change nothing and are skipped.
   abbrev pub HandsOver : Ledger C → Type 0
   HandsOver (Opening s) = ⊤
   HandsOver (Later l at e Unfit) = HandsOver l
   HandsOver (Later l at e a) = HandsOver l × IfSome (due_try l) (λ g. e ≡ Try g)
 
-  -- where any other get waits, g waits too, and since an earlier position
+  -- whether g waits, and longer than any other waiter; true if no other get waits
   abbrev pub IsFirst : Ledger C → ℕ → Type 0
   IsFirst l g = (h q : ℕ) → WaitsSince l h q → h ≢ g → (p : ℕ) × WaitsSince l g p × (p < q)
 
-  -- A try that goes out with a connection was of the first of those who wait, and went out with the
-  -- connection that became idle just now, or nobody waited; and a try waits only where nothing is
-  -- idle.
+  -- Whether a try is in turn. One that takes a connection is of the first waiter and takes the
+  -- connection that became idle just now, or nobody waited. One that waits finds nothing idle.
   abbrev pub TriesInTurn : Ledger C → Act C → Answer → Type 0
   TriesInTurn l (Try g) (Served k grant) = IsFirst l g × (0 < waiters l → just_brought l ≡ Some k)
   TriesInTurn l (Try g) (Taken k grant) = IsFirst l g × (0 < waiters l → just_brought l ≡ Some k)
   TriesInTurn l (Try g) (Waiting grant) = idle_count l ≡ 0
   TriesInTurn l _ _ = ⊤
 
-  -- so it is at each event
+  -- whether each try was in turn
   abbrev pub AlwaysInTurn : Ledger C → Type 0
   AlwaysInTurn (Opening s) = ⊤
   AlwaysInTurn (Later l at e a) = AlwaysInTurn l × TriesInTurn l e a
 
-  -- how many closes have notified a get
+  -- the count of closes that notified a get
   abbrev pub closes_told : Ledger C → ℕ
   closes_told (Opening s) = 0
   closes_told (Later l at e (Closed k grant n)) = closes_told l + one (is_some n)
   closes_told (Later l at e a) = closes_told l
 
-  -- how often a notified get has tried and waited anew
+  -- how often a notified get tried and waited anew
   abbrev pub places_lost : Ledger C → ℕ
   places_lost (Opening s) = 0
   places_lost (Later l at e Unfit) = places_lost l
   places_lost (Later l at (Try g) (Waiting grant)) = places_lost l + one (gets_stand is_notified (get_of l g))
   places_lost (Later l at e a) = places_lost l
 
-  -- how many closes, while somebody waited, nobody has asked for since: a try that begins a wait
-  -- asks for a connection, and an ask that finds nobody notified asks for all
+  -- the count of closes, made while a get waited, for which no connection was requested since: a
+  -- try that begins a wait requests one, and an ask that finds no get notified requests all
   abbrev pub unasked : Ledger C → ℕ
   unasked (Opening s) = 0
   unasked (Later l at e Unfit) = unasked l
@@ -116,25 +115,24 @@ module _ {C : Type 0} where
   unasked (Later l at (Try g) (Waiting grant)) = cond (gets_stand is_unnotified (get_of l g)) (unasked l) (unasked l - 1)
   unasked (Later l at e a) = unasked l
 
-  -- how many approvals were lost to those who wait since the latest ask that found nobody notified:
-  -- what that one withheld, and what was lost after it
+  -- the count of approvals lost to waiters since the latest ask that found no get notified: those
+  -- it withheld, plus those lost after it
   abbrev pub missed : Ledger C → ℕ
   missed (Opening s) = 0
   missed (Later l at e Unfit) = missed l
   missed (Later l at Ask (Granted grant)) = cond (eqb (notified l) 0) grant.withheld (missed l)
   missed (Later l at e a) = missed l + lost_by a
 
-  -- Where somebody waits, nothing is idle, but for one connection where a try is due.
+  -- While a get waits, nothing is idle, except for one connection if a try is due.
   abbrev pub IsSettled : Ledger C → Type 0
   IsSettled l = (waiters l ≡ 0) ⊎ (idle_count l ≡ one (is_some (due_try l)))
 
-  -- While a handle is alive, each that waits has an open approval or an idle connection, or the
-  -- size is reached; but for what was missed, and for the closes that nobody asked for.
+  -- While a handle is alive, each waiter has an open approval or an idle connection, or the size is
+  -- reached; except for what was missed, and for closes for which none was requested.
   abbrev pub IsProvided : Ledger C → Type 0
   IsProvided l = 0 < handles l → (waiters l ≤ approved l + idle_count l + missed l) ⊎ ((start l).config.max_size ≤ conns l + approved l + missed l + unasked l)
 
-  -- the first position behind that since which the get waited that went out last, of those that had
-  -- waited
+  -- one past the position at which the waiter that went out last had begun to wait, 0 if none has
   abbrev pub served_up_to : Ledger C → ℕ
   served_up_to (Opening s) = 0
   served_up_to (Later l at e Unfit) = served_up_to l
@@ -142,14 +140,14 @@ module _ {C : Type 0} where
   served_up_to (Later l at (Try g) (Taken k grant)) = past (numbered_get l g) (served_up_to l)
   served_up_to (Later l at e a) = served_up_to l
 
-  -- All that wait do so since then at the earliest: so gets go out in the order in which their
-  -- waits began.
+  -- All waiters have waited since that position or later: so gets go out in the order in which
+  -- their waits began.
   abbrev pub AllWaitBehind : Ledger C → Type 0
   AllWaitBehind l = (g p : ℕ) → WaitsSince l g p → served_up_to l ≤ p
 
-  -- Who waits is served in order, where notifications are handed over: nothing stays idle while
-  -- somebody waits, each try is in turn, and closes alone cost places, one each at most, be it lost
-  -- already or still kept by a get that is notified.
+  -- Waiters are served in order if the history has hand-off: nothing stays idle while a get waits,
+  -- each try is in turn, and only closes cost positions, one each at most, whether lost already or
+  -- still held by a notified get.
   pub record KeepsOrder (l : Ledger C) : Type 0 where
     pub settled : IsSettled l
     pub provided : IsProvided l
@@ -158,20 +156,19 @@ module _ {C : Type 0} where
     pub few_lost : places_lost l ≤ closes_told l
     pub few_told : notified l + places_lost l ≤ closes_told l + one (is_some (due_try l))
 
-  -- A history in which each get that is notified tries at once, directly after the event that
-  -- notified it.
+  -- A history in which each notified get tries at once, directly after the event that notified it.
   abbrev pub TriesWhenTold : Ledger C → Type 0
   TriesWhenTold (Opening s) = ⊤
   TriesWhenTold (Later l at e Unfit) = TriesWhenTold l
   TriesWhenTold (Later l at e a) = TriesWhenTold l × IfSome (just_told l) (λ g. e ≡ Try g)
 
-  -- A history in which each get that was notified has tried at once, the latest one, too.
+  -- A history in which each notified get has tried at once, the latest one too.
   abbrev pub IsPrompt : Ledger C → Type 0
   IsPrompt l = TriesWhenTold l × (just_told l ≡ None)
 
-  -- It hands over; nobody is notified but who was told just now; and where nobody was, each close
-  -- was asked for. Each ask finds nobody notified, so what was missed is what was lost since the
-  -- latest one.
+  -- It has hand-off; no get is notified except the one notified just now; and if there is none, a
+  -- connection was requested for each close. Each ask finds no get notified, so what was missed is
+  -- what was lost since the latest ask.
   pub record TriesAtOnce (l : Ledger C) : Type 0 where
     pub hands_over : HandsOver l
     pub few : notified l ≡ one (is_some (just_told l))
@@ -179,8 +176,8 @@ module _ {C : Type 0} where
     pub asked : just_told l ≡ None → unasked l ≡ 0
     pub none_missed : missed l ≡ lost l
 
-  -- who waits is served in order, where the history hands over, and so where each get that is
-  -- notified tries at once
+  -- Waiters are served in order if the history has hand-off, and so if each notified get tries at
+  -- once.
   pub record IsOrderly (l : Ledger C) : Type 0 where
     pub handed : HandsOver l → KeepsOrder l
     pub at_once : TriesWhenTold l → TriesAtOnce l

@@ -1,5 +1,5 @@
--- What a worked row says, and the words for its lines. The rows stand in WorkedRows.antt.
--- In a row every connection is the number of its record, and a moment is given in nanoseconds.
+-- The meaning of a worked row, and notations for its lines. The rows are in WorkedRows.antt.
+-- In a row each connection is the number of its record, and moments are in nanoseconds.
 use Rattle.std.specs.Prelude.{◌≡◌, ℕ, zero, suc, ◌*◌, true, false, List, [], ◌∷◌, ◌++◌}
 use Rattle.bb8_types.specs.declared.grants.Grant.{Grant}
 use Rattle.bb8_types.specs.Settings.{Settings, default_settings, is_lawful}
@@ -12,69 +12,69 @@ use Rattle.bb8_ledger.specs.Limits.{lost}
 use Rattle.bb8_ledger.specs.Handed.{HandsOver, places_lost, unasked, missed}
 use Rattle.bb8_ledger.specs.Waits.{wait, IsMostWaits}
 
--- ---- what a row says
+-- ---- the meaning of a row
 
--- A line of a row: an event at a moment, and what it is answered.
+-- A line of a row: an event at a moment, and its result.
 pub record Told : Type 0 where
   pub at : ℕ
   pub act : Act ℕ
   pub answer : Answer
 
--- the ledger that the lines lead to
+-- the ledger after these lines
 abbrev pub after : Ledger ℕ → List Told → Ledger ℕ
 after l [] = l
 after l (t ∷ told) = after (Later l t.at t.act t.answer) told
 
--- each answer is one that the whole step table allows
+-- whether the step table allows each result
 abbrev pub AreAllowed : Ledger ℕ → List Told → Type 0
 AreAllowed l [] = Unit {0}
 AreAllowed l (t ∷ told) = Allowed l t.at t.act t.answer × AreAllowed (Later l t.at t.act t.answer) told
 
--- A worked row: from the empty ledger of a lawful configuration, with the first numbers given, the
--- answers are allowed, and the state that is shown at the end has these figures.
+-- A worked row: from the empty ledger of a lawful configuration, with these first numbers, the
+-- results are allowed, and the final state has these statistics.
 pub record IsRow (config : Settings) (first first_get : ℕ) (told : List Told) (shown : Figures) : Type 0 where
   pub lawful : is_lawful config ≡ true
   pub allowed : AreAllowed (opening_with config first first_get) told
   pub last : figures (after (opening_with config first first_get) told) ≡ shown
 
--- the first waits of a back-off
+-- the first n waits of a back-off
 abbrev pub first_waits : ℕ → ℕ → List ℕ
 first_waits timeout zero = []
 first_waits timeout (suc n) = first_waits timeout n ++ wait timeout (suc n) ∷ []
 
--- The waits of a replenishing whose every connect fails at once, so that it makes one try more: the
--- last wait, and it alone, ends after the timeout, and most is the number of those before it.
+-- The waits of a connection attempt whose every connect fails at once, and which therefore tries
+-- once more: only the last wait ends after the timeout, and `most` is the count of those before it.
 pub record IsBackOff (timeout : ℕ) (told : List ℕ) (most : ℕ) : Type 0 where
   pub first : first_waits timeout (suc most) ≡ told
   pub within : IsMostWaits timeout most
 
--- ---- words for the lines
+-- ---- notations for lines
 
--- at a moment, an event and its answer
+-- at a moment, an event and its result
 infix 70 ◌▸◌⇒◌
--- at a moment this happens, and is answered so
+-- a line: at a moment, an event and its result
 abbrev pub ◌▸◌⇒◌ : ℕ → Act ℕ → Answer → Told
 ◌▸◌⇒◌ at act answer = record { at = at; act = act; answer = answer }
 
--- so many approvals, from the number that was next; nothing is withheld
+-- a grant of this many approvals, from the next number on; nothing is withheld
 infix 71 grant◌at◌
--- a grant of so many numbers from one on, with nothing withheld
+-- a grant of this many approvals, from a number on; nothing is withheld
 abbrev pub grant◌at◌ : ℕ → ℕ → Grant
 grant◌at◌ count first = record { first = first; count = count; withheld = 0 }
 
--- the approval brings its connection
+-- the attempt of an approval succeeds
 abbrev pub opens : ℕ → Act ℕ
 opens k = Opened k k
 
--- the guard gives the connection back, and it is not broken
+-- a guard returns its connection, which is not broken
 abbrev pub returns : ℕ → Act ℕ
 returns k = PutBack k k false
 
--- a connection is handed in, and it is not broken
+-- a connection that is not broken is added
 abbrev pub adds : ℕ → Act ℕ
 adds k = Add k false
 
--- the figures of a state, in the order in which a state is printed; the wait time in microseconds
+-- the statistics of a state, in the order in which they are printed; the wait time in microseconds
 infix 70 connections◌idle◌started◌direct◌waited◌timed_out◌cancelled◌wait_us◌created◌broken◌invalid◌lifetime◌idle_timeout◌
 abbrev pub connections◌idle◌started◌direct◌waited◌timed_out◌cancelled◌wait_us◌created◌broken◌invalid◌lifetime◌idle_timeout◌ : (connections
     idle started direct waited timed_out cancelled wait_us created broken invalid lifetime idle_timeout : ℕ) → Figures
@@ -84,7 +84,7 @@ connections c idle i started s direct d waited w timed_out t cancelled x wait_us
   counts = record { started = s; direct = d; waited = w; timed_out = t; cancelled = x; wait_time = 1000 * u; created = n; broken = b; invalid = v; max_lifetime = l; idle_timeout = j; retired = 0; detached = 0 };
 }
 
--- the same figures, with what a state prints after them where it is not 0
+-- the same statistics, with those that are printed after them if they are not 0
 infixl 69 ◌retired◌
 abbrev pub ◌retired◌ : Figures → ℕ → Figures
 ◌retired◌ figures n = record figures { counts = record figures.counts { retired = n } }
@@ -93,24 +93,24 @@ infixl 69 ◌detached◌
 abbrev pub ◌detached◌ : Figures → ℕ → Figures
 ◌detached◌ figures n = record figures { counts = record figures.counts { detached = n } }
 
--- ---- words for the configurations
+-- ---- notations for configurations
 
--- so many connections at most, and no check on check-out
+-- this many connections at most, and no check on check-out
 abbrev pub unchecked : ℕ → Settings
 unchecked max_size = record default_settings { max_size = max_size; test_on_check_out = false }
 
--- ---- in which order gets are served in a row
+-- ---- the order in which gets are served in a row
 
--- a row of one connection that hands over: so often a get has waited anew, and each close was asked
--- for
+-- a row of one connection with hand-off: `lost` times a notified get waited anew, and a connection
+-- was requested for each close
 abbrev pub HandsOverLosing : ℕ → List Told → Type 0
 HandsOverLosing lost told = let l : Ledger ℕ = after (opening_with (unchecked 1) 0 0) told in HandsOver l × (places_lost l ≡ lost) × (unasked l ≡ 0)
 
--- a row of three connections that hands over: none is lost to those who wait since the latest ask,
--- so many were missed, and each close was asked for
+-- a row of three connections with hand-off: nothing was lost to waiters since the latest ask,
+-- `missing` approvals were missed, and a connection was requested for each close
 abbrev pub HandsOverMissing : ℕ → List Told → Type 0
 HandsOverMissing missing told = let l : Ledger ℕ = after (opening_with (unchecked 3) 0 0) told in HandsOver l × (lost l ≡ 0) × (missed l ≡ missing) × (unasked l ≡ 0)
 
--- a row of one connection that does not hand over
+-- a row of one connection without hand-off
 abbrev pub IsOvertaking : List Told → Type 0
 IsOvertaking told = HandsOver (after (opening_with (unchecked 1) 0 0) told) → ⊥

@@ -1,4 +1,4 @@
--- The step table: which events fit, and which answers each may have.
+-- The step table: which events fit, and which results each may have.
 use Rattle.std.specs.Prelude.{◌≡◌, ◌≢◌, ℕ, ◌+◌, ◌-◌, ◌<◌, ◌≤◌, max, Bool, true, false, ◌&&◌, ◌||◌, not, eqb, ltb, cond, Option, Some, None, is_some, slice_get, length, List}
 use Rattle.std.specs.Bool.{MatchBool}
 use Rattle.bb8_types.specs.declared.grants.Grant.{Grant}
@@ -8,17 +8,17 @@ use Rattle.bb8_types.specs.Settings.{is_lawful}
 use Rattle.bb8_types.specs.Numbered.{Numbered, update, one, after_end}
 use Rattle.bb8_ledger.specs.Acts.{Act, Begin, Try, CheckedOk, CheckedErr, GiveUp, PutBack, Detach, Fill, Ask, Claim, Opened, Failed, Add, Reap, Retire, State, Join, Leave, Close, Look, Reason}
 use Rattle.bb8_ledger.specs.Answers.{Answer, Begun, Memory, Exhausted, Served, Taken, Waiting, Kept, Closed, GaveUp, Granted, Claimed, Ended, Entered, Late, GivenBack, Added, Broken, NoCapacity, Withheld, Reaped, Shown, Joined, Left, Looked, Unfit}
-use Rattle.bb8_ledger.specs.Ledger.{Ledger, Opening, Later, start, position, latest, records, handles, next, next_get, conns, approved, conns_of, approved_of, idle_of, alive, unnotified, idle_count, first_idle, oldest_waiter, unclaimed, peak, get_peak, record_of, get_of, at_place, reaped, outlived, idled, retiring, with_ended, expires, asks_check, figures}
+use Rattle.bb8_ledger.specs.Ledger.{Ledger, Opening, Later, start, position, latest, records, handles, next, next_get, conns, approved, conns_of, approved_of, idle_of, alive, unnotified, idle_count, first_idle, oldest_waiter, unclaimed, peak, get_peak, record_of, get_of, at_place, reaped, outlived, idled, retiring, with_ended, retired, expires, asks_check, figures}
 use Rattle.bb8_types.specs.Places.{stands, gets_stand, holds, is_claimed, is_doubtful, is_guarded, is_unnotified, is_notified, is_trying}
 use Rattle.bb8_types.specs.Grants.{due, lacking, IsGranted, IsNoGrant}
 use Rattle.bb8_types.specs.Bounds.{end_of_numbers, most_handles}
 
--- both tests answer the same
+-- whether two tests agree
 abbrev pub agree : Bool → Bool → Bool
 agree a b = cond a b (not b)
 
 module _ {C : Type 0} where
-  -- Which events fit. A give-up hands a connection in just where the get holds one.
+  -- Which events fit. A give-up hands in a connection exactly if the get holds one.
   abbrev pub fits : Ledger C → Act C → Bool
   fits l Begin = ltb 0 (handles l)
   fits l (Try g) = gets_stand is_trying (get_of l g)
@@ -41,20 +41,25 @@ module _ {C : Type 0} where
   fits l Close = ltb 0 (handles l)
   fits l Look = true
 
-  -- want: what is granted of the approvals that are lacking, once the records have changed to these
+  -- want: whether a grant of the lacking approvals is allowed, after the records have changed to
+  -- these
   abbrev pub IsWant : Ledger C → List (Numbered (Standing C)) → Grant → Type 0
   IsWant l rs g =
       let taken : ℕ = conns_of rs + approved_of rs in
       IsGranted ((start l).first + length rs) taken (peak l) (due (start l).config (handles l) taken (lacking (start l).config (idle_of rs + approved_of rs))) g
 
-  -- the records once the number k has changed
+  -- the records after the one with the number k has changed
   abbrev pub with_record : Ledger C → ℕ → (Numbered (Standing C) → Numbered (Standing C)) → List (Numbered (Standing C))
   with_record l k f = update (start l).first k f (records l)
 
-  -- return: whether a connection that comes back is closed, as it is broken, or has lived too long,
-  -- or no handle is alive
+  -- return: whether a returned connection is closed, because it is broken, has expired, or no
+  -- handle is alive
   abbrev pub closes : Ledger C → ℕ → ℕ → Bool → Bool
   closes l at k broken = broken || (expires l at k || eqb (handles l) 0)
+
+  -- whether the connection of an approval comes too late: no handle is alive, or it is retired
+  abbrev pub comes_late : Ledger C → ℕ → Bool
+  comes_late l k = eqb (handles l) 0 || ltb k (retired l)
 
   -- the numbers of the records that a reap ends
   abbrev pub reaped_at : Ledger C → ℕ → List ℕ
@@ -64,25 +69,25 @@ module _ {C : Type 0} where
   abbrev pub outlived_at : Ledger C → ℕ → List ℕ
   outlived_at l at = outlived (start l) (max (latest l) at) (records l)
 
-  -- and those that are idle too long
+  -- those of them that are idle too long
   abbrev pub idled_at : Ledger C → ℕ → List ℕ
   idled_at l at = idled (start l) (position l) (max (latest l) at) (with_ended (start l).first (outlived_at l at) (records l))
 
-  -- the numbers of the records that a retire ends: as a reap at which each idle one has lived too
+  -- the numbers of the records that a retire ends: as in a reap in which each idle one lives too
   -- long
   abbrev pub retired_at : Ledger C → ℕ → List ℕ
   retired_at l at = reaped (retiring (start l)) (position l) (max (latest l) at) (records l)
 
-  -- how many waiters that were not notified have no open approval: one that was notified tries by
-  -- itself, and asks for its own then
+  -- the count of unnotified waiters without an open approval; a notified waiter tries by itself,
+  -- and then requests its own
   abbrev pub unprovided : Ledger C → ℕ
   unprovided l = unnotified l - approved l
 
-  -- how many idle records the leave of a handle ends
+  -- the count of idle records that end when a handle leaves
   abbrev pub leave_count : Ledger C → ℕ
   leave_count l = cond (eqb (handles l) 1) (idle_count l) 0
 
-  -- The rows of the step table: an event that fits, at a moment, and an answer that it may have.
+  -- The rows of the step table: an event that fits, at a moment, with a result that it may have.
   pub data Row (l : Ledger C) (at : ℕ) : Act C → Answer → Type 0 where
     begins : {g : ℕ} → g ≡ next_get l → g < end_of_numbers → Row l at Begin (Begun g)
     begin_refused : next_get l < end_of_numbers → alive l ≡ get_peak l → Row l at Begin Memory
@@ -115,8 +120,8 @@ module _ {C : Type 0} where
         (due (start l).config (handles l) (conns l + approved l) (unprovided l)) grant → Row l at Ask (Granted grant)
     claims : {k : Option ℕ} → 0 < handles l → slice_get (unclaimed l) 0 ≡ k → Row l at Claim (Claimed k)
     claim_ended : handles l ≡ 0 → Row l at Claim Ended
-    opens : {k : ℕ} {c : C} {n : Option ℕ} → 0 < handles l → n ≡ oldest_waiter l → Row l at (Opened k c) (Entered k n)
-    opens_late : {k : ℕ} {c : C} → handles l ≡ 0 → Row l at (Opened k c) (Late k)
+    opens : {k : ℕ} {c : C} {n : Option ℕ} → comes_late l k ≡ false → n ≡ oldest_waiter l → Row l at (Opened k c) (Entered k n)
+    opens_late : {k : ℕ} {c : C} → comes_late l k ≡ true → Row l at (Opened k c) (Late k)
     fails : {k : ℕ} → Row l at (Failed k) GivenBack
     add_broken : {c : C} → Row l at (Add c true) Broken
     add_full : {c : C} → conns l + approved l ≡ (start l).config.max_size → Row l at (Add c false) NoCapacity
@@ -139,11 +144,11 @@ module _ {C : Type 0} where
     shuts : {n : ℕ} → n ≡ idle_count l → Row l at Close (Left n)
     looks : {m : ℕ} {open_now : Bool} → m ≡ max (latest l) at → open_now ≡ ltb 0 (handles l) → Row l at Look (Looked m open_now)
 
-  -- Allowed answers: an event that fits has an answer of the table, and another one is Unfit.
+  -- Allowed results: an event that fits has a result of the table, any other Unfit.
   abbrev pub Allowed : Ledger C → ℕ → Act C → Answer → Type 0
   Allowed l at e a = MatchBool (fits l e) (Row l at e a) (a ≡ Unfit)
 
-  -- A legal ledger: its configuration is lawful, and every answer in it was allowed.
+  -- A legal ledger: its configuration is lawful, and every result in it was allowed.
   abbrev pub IsLegal : Ledger C → Type 0
   IsLegal (Opening s) = is_lawful s.config ≡ true
   IsLegal (Later l at e a) = IsLegal l × Allowed l at e a

@@ -466,19 +466,19 @@ retired_at_one =
     ∷ 4 ▸ Reap ⇒ Reaped 0 0 0 (grant 0 at 3)
     ∷ []
 
--- an opening is under way at a retire: its connection is served once, and closed when it comes back
+-- an opening is under way at a retire: its connection comes too late, and whoever waits for it is served with a new one
 abbrev pub retired_while_opening : List Told
 retired_while_opening =
     0 ▸ Fill true ⇒ Granted (grant 1 at 0)
     ∷ 1 ▸ Retire ⇒ Reaped 0 0 0 (grant 0 at 1)
-    ∷ 2 ▸ opens 0 ⇒ Entered 0 None
-    ∷ 3 ▸ Begin ⇒ Begun 0
-    ∷ 3 ▸ Try 0 ⇒ Served 0 (grant 1 at 1)
+    ∷ 2 ▸ Begin ⇒ Begun 0
+    ∷ 2 ▸ Try 0 ⇒ Waiting (grant 0 at 1)
+    ∷ 3 ▸ opens 0 ⇒ Late 0
+    ∷ 3 ▸ Ask ⇒ Granted (grant 1 at 1)
+    ∷ 3 ▸ Fill false ⇒ Granted (grant 0 at 2)
     ∷ 3 ▸ Claim ⇒ Claimed (Some 1)
-    ∷ 3 ▸ opens 1 ⇒ Entered 1 None
-    ∷ 4 ▸ returns 0 ⇒ Closed 0 (grant 0 at 2) None
-    ∷ 4 ▸ Begin ⇒ Begun 1
-    ∷ 4 ▸ Try 1 ⇒ Served 1 (grant 1 at 2)
+    ∷ 4 ▸ opens 1 ⇒ Entered 1 (Some 0)
+    ∷ 4 ▸ Try 0 ⇒ Served 1 (grant 1 at 2)
     ∷ 5 ▸ returns 1 ⇒ Kept 1 None
     ∷ []
 

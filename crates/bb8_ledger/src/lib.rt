@@ -1,5 +1,5 @@
-//! The ledger of a pool: all that happened, and what follows from it. The code is one law, of the
-//! worked rows.
+//! The ledger of a pool: the history of its events, and what follows from it. The only code is one
+//! law, that of the worked rows.
 #![tactic(auto)]
 
 pub mod rows;

@@ -1,16 +1,17 @@
-//! Worked rows: what was worked out by hand from the rules of a pool, proved of the definitions.
+//! Worked rows: examples worked out by hand from the rules of a pool, proved of the definitions.
 ghost use Rattle.std.specs.Prelude.{[], ◌∷◌};
 ghost use Rattle.bb8_types.specs.declared.api.configuration.QueueStrategy.TheVariants.{Lifo};
 ghost use Rattle.bb8_types.specs.Settings.{default_settings};
 ghost use Rattle.bb8_ledger.specs.Rows.{IsRow, HandsOverLosing, HandsOverMissing, IsOvertaking, IsBackOff, unchecked, connections◌idle◌started◌direct◌waited◌timed_out◌cancelled◌wait_us◌created◌broken◌invalid◌lifetime◌idle_timeout◌, ◌retired◌, ◌detached◌};
 ghost use Rattle.bb8_ledger.specs.WorkedRows.{two_opened, three_out, first_script, overtaken, closed_puts_last, passed_by_two, closed_keeps_place, handed_on, oldest_first, newest_first, check_failed, reaped_at_the_limit, moment_goes_back, get_numbers_used_up, numbers_used_up, third_place_refused, third_adding_withheld, added_until_full, returned_unfit, none_left_valid, last_handle_left, waited_five_micros, used_again, idled_out, spared_oldest, spared_newest, spared_after_expired, expired_not_spared, returned_too_old, cancelled_in_check, given_back, returned_after_last_handle, checked_after_a_second, doubted_in_check, fresh_since_its_entry, detached_once, detached_and_made_good, retired_at_one, retired_while_opening, retired_and_made_good, asked_anew, asked_for_told, asked_up_to_the_size, shut_once, shut_with_waiters};
 
-/// Worked rows of the definitions: no code stands behind them. Each clause but the last four says
-/// of one row that the whole step table allows the answers of its lines, from its configuration and
-/// first numbers on, and that the state shown at the end has these figures. The clause `order` says
-/// which of them hand over, and how many places closes cost there. The last three tell the waits of
-/// a back-off in nanoseconds, and how many of them end within the timeout. The behaviour is
-/// upstream's but where the list of differences says otherwise; the function is our own.
+/// Worked rows, proved of the definitions alone; the function has no body. Each clause except the
+/// last five is about one row: the step table allows the result of each line, from the row's
+/// configuration and first numbers on, and the final state has these statistics. The clauses
+/// `order` and `asked_for_all` are about hand-off: which rows have it, how many positions closes
+/// cost there, and how many approvals were missed. The last three give the waits of a back-off in
+/// nanoseconds, and how many of them end within the timeout. The behaviour is bb8's, except as the
+/// list of differences says; the function is not in bb8.
 pub fn worked_rows()
     ensures two_opened { IsRow (record (unchecked 5) { min_idle = Some 2 }) 0 0 two_opened
         (connections 2 idle 2 started 0 direct 0 waited 0 timed_out 0 cancelled 0
@@ -57,8 +58,8 @@ pub fn worked_rows()
         wait_us 0 created 0 broken 0 invalid 0 lifetime 0 idle_timeout 0 retired 2) }
     ensures retired_while_opening { IsRow (record (unchecked 2) { min_idle = Some 1 })
         0 0 retired_while_opening
-        (connections 1 idle 1 started 2 direct 2 waited 0 timed_out 0 cancelled 0
-        wait_us 0 created 2 broken 0 invalid 0 lifetime 0 idle_timeout 0 retired 1) }
+        (connections 1 idle 1 started 1 direct 0 waited 1 timed_out 0 cancelled 0
+        wait_us 0 created 1 broken 0 invalid 0 lifetime 0 idle_timeout 0) }
     ensures retired_and_made_good { IsRow (record (unchecked 3) { min_idle = Some 2 })
         0 0 retired_and_made_good
         (connections 1 idle 1 started 1 direct 1 waited 0 timed_out 0 cancelled 0

@@ -1,20 +1,20 @@
-//! Rounds of a live pool, for a profiler: a get is polled once, and its guard is dropped.
+//! Rounds of a live pool for a profiler: each get is polled once, and its guard is dropped.
 //!
 //! `bb8_live_bench hand ROUNDS SIZE`: one thread, a pool of `SIZE` idle connections, each get
-//! polled by hand, on a clock that is set. `bb8_live_bench check ROUNDS SIZE`: the same with the
-//! check on. `bb8_live_bench machine ROUNDS SIZE`: the first on the machine's clock.
-//! `bb8_live_bench block ROUNDS SIZE`: the first by an executor that is made for each get.
-//! `bb8_live_bench task ROUNDS SIZE`: polls of a future that is ready, which are taken off the
-//! first. `bb8_live_bench threads ROUNDS SIZE [THREADS]`: so many threads, four if none is said, of
-//! so many rounds each, polled by hand until they are served, on the machine's clock.
-//! `bb8_live_bench threads-check ROUNDS SIZE [THREADS]`: the same with the check on.
-//! `bb8_live_bench crowd GETS SIZE`: so many gets wait for the connections, which are all out, and
-//! are served one by one. `bb8_live_bench let-go GETS SIZE`: so many gets wait in the same way, and
-//! are let go. `bb8_live_bench wait GETS SIZE`: so many gets wait in the same way, for a while. It
-//! prints how many gets were served, or waited. `bb8_live_bench wake ROUNDS`: two threads take
-//! turns with one connection, so many rounds each, and sleep in their gets. It prints the median
-//! and the 95th percentile of the nanoseconds from a return to the answer of the get that waits for
-//! it.
+//! polled by hand, on a clock that is set. `bb8_live_bench check ROUNDS SIZE`: as `hand`, with the
+//! check on. `bb8_live_bench machine ROUNDS SIZE`: as `hand`, on the machine's clock.
+//! `bb8_live_bench block ROUNDS SIZE`: as `hand`, with an executor for each get. `bb8_live_bench
+//! task ROUNDS SIZE`: polls of a ready future, to be subtracted from `hand`. `bb8_live_bench
+//! threads ROUNDS SIZE [THREADS]`: this many threads, four by default, of this many rounds each,
+//! polled by hand until they are served, on the machine's clock. `bb8_live_bench threads-check
+//! ROUNDS SIZE [THREADS]`: as `threads`, with the check on. `bb8_live_bench crowd GETS SIZE`: this
+//! many gets wait while all connections are checked out, and are served one by one. `bb8_live_bench
+//! let-go GETS SIZE`: as `crowd`, but the gets are cancelled. `bb8_live_bench wait GETS SIZE`: as
+//! `crowd`, but the gets wait for a while. It prints how many gets were served, or waited.
+//!
+//! `bb8_live_bench wake ROUNDS`: two threads take turns with one connection, this many rounds each,
+//! and sleep in their gets. It prints the median and the 95th percentile of the nanoseconds from a
+//! return to the result of the get that waits for it.
 #![tactic(auto)]
 
 ghost use Rattle.std.specs.Prelude.{◌<◌, false};
@@ -37,10 +37,10 @@ use std::{env, io};
 use waiting::{kept_waiting, let_go, served_in_turn};
 use waking::woken;
 
-/// How many threads there are where none is said.
+/// The default number of threads.
 const THREADS: usize = 4;
 
-/// What is run.
+/// What is measured.
 #[derive(Clone, Copy)]
 enum Measure {
     Hand,
@@ -55,7 +55,7 @@ enum Measure {
     Wait,
 }
 
-/// The mode of this name, with so many threads.
+/// Returns the measure of this name, with this many threads.
 fn mode_of(name: &str, threads: usize) -> Option<Measure> {
     match name {
         "hand" => Some(Measure::Hand),
@@ -72,7 +72,7 @@ fn mode_of(name: &str, threads: usize) -> Option<Measure> {
     }
 }
 
-/// A pool of so many idle connections.
+/// Returns a pool of this many idle connections.
 fn full<K: Clock, R: Runtime, L: PoolParts>(
     rt: R,
     clock: K,
@@ -95,8 +95,8 @@ fn full<K: Clock, R: Runtime, L: PoolParts>(
     Ok(pool)
 }
 
-/// Runs a mode of one thread on a clock that is set, with the check on or off: how many gets were
-/// served.
+/// Runs a measure of one thread on a clock that is set, with the check on or off. Returns how many
+/// gets were served.
 fn alone<R: Runtime, L: PoolParts>(
     rt: R,
     blank: Blank,
@@ -119,8 +119,8 @@ fn alone<R: Runtime, L: PoolParts>(
     }
 }
 
-/// Runs a mode on the machine's clock, in one thread or in more, with the check on or off: how many
-/// gets were served.
+/// Runs a measure on the machine's clock, in one thread or several, with the check on or off.
+/// Returns how many gets were served.
 fn clocked<R: Runtime + Threads, L: PoolParts>(
     rt: R,
     blank: Blank,
@@ -143,8 +143,8 @@ fn clocked<R: Runtime + Threads, L: PoolParts>(
     }
 }
 
-/// Runs a mode of gets that wait, on a clock that stands still, so that what the others are
-/// measured by stays compiled for them alone: how many gets were served, or waited.
+/// Runs a measure of waiting gets, on a clock that stands still, so that the code of the other
+/// measures is compiled for them alone. Returns how many gets were served, or waited.
 fn crowded<R: Runtime, L: PoolParts>(
     rt: R,
     blank: Blank,
@@ -165,7 +165,7 @@ fn crowded<R: Runtime, L: PoolParts>(
     }
 }
 
-/// Runs a mode over a pool with parts of its own.
+/// Runs a measure over a pool with its own permits.
 fn start<R: Runtime + Threads>(rt: R, mode: Measure, rounds: u64, size: u32) -> Result<u64, Memory>
     requires { 0 < size }
 {
@@ -185,7 +185,7 @@ fn start<R: Runtime + Threads>(rt: R, mode: Measure, rounds: u64, size: u32) -> 
     }
 }
 
-/// Runs the mode of the arguments.
+/// Runs the measure that the arguments name.
 fn main(rt: HostRuntime) -> io::Result<()> {
     let mut args = env::args(&rt)?;
     let _ = args.next();

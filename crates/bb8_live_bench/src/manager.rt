@@ -1,4 +1,4 @@
-//! The manager and the pool that are measured.
+//! The measured manager and pool.
 
 use bb8::{Clock, GetFuture, Moment, NopCustomizer, NopErrorSink, Pool, PooledConnection};
 use bb8_blocking::{Blocking, BlockingManager};
@@ -18,7 +18,7 @@ impl Clock for StillClock {
 /// A pool whose connections are numbers.
 pub type NumberPool<K, R, L> = Pool<Blocking<NumberManager>, NopErrorSink, NopCustomizer, K, R, L>;
 
-/// A get of such a pool.
+/// The future of a get of such a pool.
 pub type NumberGet<'a, K, R, L> = GetFuture<
     'a,
     Blocking<NumberManager>,
@@ -29,7 +29,7 @@ pub type NumberGet<'a, K, R, L> = GetFuture<
     L,
 >;
 
-/// What guards a connection of such a pool.
+/// A guard of such a pool.
 pub type NumberGuard<'a, K, R, L> = PooledConnection<
     'a,
     Blocking<NumberManager>,
@@ -40,11 +40,11 @@ pub type NumberGuard<'a, K, R, L> = PooledConnection<
     L,
 >;
 
-/// Opens the connection 7, and finds each connection valid and whole.
+/// Opens connections with the number 7, and finds each one valid and not broken.
 #[derive(Drop)]
 pub struct NumberManager;
 
-/// The error that never comes.
+/// An error that never occurs.
 #[derive(Clone, Copy, Debug)]
 pub struct Never;
 

@@ -1,4 +1,4 @@
-//! The rounds.
+//! The rounds of a benchmark.
 
 use crate::manager::NumberPool;
 use bb8::{Clock, Gets, Job, Memory, PoolParts, Runtime, in_threads};
@@ -8,7 +8,7 @@ use futures::task::Poll;
 use futures::test::MockTask;
 use std::thread::Threads;
 
-/// So many gets, each polled once by hand, with their guards dropped: how many were served.
+/// Makes gets, each polled once by hand, and drops their guards. Returns how many were served.
 pub fn polled<K: Clock, R: Runtime, L: PoolParts>(
     rt: &R,
     pool: &NumberPool<K, R, L>,
@@ -27,7 +27,7 @@ pub fn polled<K: Clock, R: Runtime, L: PoolParts>(
     Ok(served)
 }
 
-/// The same by an executor for each get.
+/// Makes gets as `polled` does, with an executor for each.
 pub fn blocked<K: Clock, R: Runtime, L: PoolParts>(
     rt: &R,
     pool: &NumberPool<K, R, L>,
@@ -43,7 +43,7 @@ pub fn blocked<K: Clock, R: Runtime, L: PoolParts>(
     Ok(served)
 }
 
-/// So many polls of a future that is ready.
+/// Polls a future that is ready, this many times.
 pub fn polled_ready<R: Runtime>(rt: &R, rounds: u64) -> Result<u64, Memory> {
     let Ok(task) = MockTask::new(rt) else {
         return Err(Memory);
@@ -57,7 +57,7 @@ pub fn polled_ready<R: Runtime>(rt: &R, rounds: u64) -> Result<u64, Memory> {
     Ok(served)
 }
 
-/// So many gets, each polled once by hand, with their guards dropped.
+/// Gets, each polled once by hand, whose guards are dropped.
 #[derive(Drop)]
 struct Rounds<'a, K: Clock, R: Runtime, L: PoolParts> {
     pool: &'a NumberPool<K, R, L>,
@@ -66,7 +66,7 @@ struct Rounds<'a, K: Clock, R: Runtime, L: PoolParts> {
 }
 
 impl<K: Clock, R: Runtime, L: PoolParts> Job for &Rounds<'_, K, R, L> {
-    /// How many gets were served.
+    /// The number of served gets.
     type Told = u64;
 
     fn run(self, _thread: usize) -> u64 {
@@ -84,7 +84,7 @@ impl<K: Clock, R: Runtime, L: PoolParts> Job for &Rounds<'_, K, R, L> {
     }
 }
 
-/// So many threads of so many rounds each.
+/// Runs this many threads of this many rounds each.
 pub fn shared<K: Clock, R: Runtime + Threads, L: PoolParts>(
     rt: R,
     pool: &NumberPool<K, R, L>,

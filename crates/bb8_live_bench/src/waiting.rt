@@ -1,14 +1,14 @@
-//! Gets that wait for connections that are all out.
+//! Gets that wait while all connections are checked out.
 
 use crate::manager::{NumberGet, NumberGuard, NumberPool};
 use bb8::{Clock, Gets, Memory, PoolParts, Runtime};
 use futures::task::Poll;
 use futures::test::MockTask;
 
-/// How many polls last a while.
+/// The number of polls of a waiting get.
 const POLLS: u64 = 200_000;
 
-/// Gets that wait, and the guards that they wait for.
+/// Waiting gets, and the guards that they wait for.
 #[derive(Drop)]
 struct Crowd<'a, K: Clock, R: Runtime, L: PoolParts> {
     task: MockTask,
@@ -16,7 +16,7 @@ struct Crowd<'a, K: Clock, R: Runtime, L: PoolParts> {
     gets: Vec<NumberGet<'a, K, R, L>>,
 }
 
-/// Takes so many connections, which are all, and has so many gets wait, each polled once by hand.
+/// Checks all connections out, and has this many gets wait, each polled once by hand.
 fn waiting<'a, K: Clock, R: Runtime, L: PoolParts>(
     rt: &R,
     pool: &'a NumberPool<K, R, L>,
@@ -45,8 +45,8 @@ fn waiting<'a, K: Clock, R: Runtime, L: PoolParts>(
     Ok(crowd)
 }
 
-/// So many gets wait; then one after another a guard is dropped, and the get that waited longest is
-/// polled by hand and served: how many were.
+/// Has this many gets wait. Then it drops the guards one after another, and each time polls the
+/// longest waiter by hand. Returns how many were served.
 pub fn served_in_turn<K: Clock, R: Runtime, L: PoolParts>(
     rt: &R,
     pool: &NumberPool<K, R, L>,
@@ -69,7 +69,7 @@ pub fn served_in_turn<K: Clock, R: Runtime, L: PoolParts>(
     Ok(served)
 }
 
-/// So many gets wait, and the one that came last is polled by hand for a while: how many there are.
+/// Has this many gets wait, and polls the last one by hand many times. Returns how many wait.
 pub fn kept_waiting<K: Clock, R: Runtime, L: PoolParts>(
     rt: &R,
     pool: &NumberPool<K, R, L>,
@@ -86,7 +86,7 @@ pub fn kept_waiting<K: Clock, R: Runtime, L: PoolParts>(
     Ok(gets)
 }
 
-/// So many gets wait, and are let go: how many were.
+/// Has this many gets wait, and cancels them. Returns how many there were.
 pub fn let_go<K: Clock, R: Runtime, L: PoolParts>(
     rt: &R,
     pool: &NumberPool<K, R, L>,

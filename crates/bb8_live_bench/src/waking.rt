@@ -1,4 +1,4 @@
-//! Threads that sleep until a connection comes back.
+//! Threads that sleep until a connection is returned.
 
 use crate::manager::{NumberManager, NumberPool};
 use bb8::{
@@ -11,23 +11,23 @@ use std::thread;
 use std::thread::Threads;
 use std::time::Duration;
 
-/// Two threads take turns: one has the one connection for a while, and the other sleeps in its get
-/// meanwhile.
+/// Two threads take turns with the only connection: one holds it for a while, and the other sleeps
+/// in its get meanwhile.
 #[derive(Drop)]
 struct Turns<R> {
     rt: R,
-    /// How often each thread has it.
+    /// How often each thread checks it out.
     rounds: u64,
-    /// When the last return began, by the machine's clock.
+    /// When the latest return began, by the machine's clock.
     returned: AtomicU64,
 }
 
 impl<R: Runtime> Service<Blocking<NumberManager>, NopErrorSink, NopCustomizer, MachineClock<R>, R>
     for Turns<R> {
-    /// The nanoseconds from a return to the answer, of each get that waited for it.
+    /// The nanoseconds from a return to the result of each get that waited for it.
     type Told = Option<Vec<u64>>;
 
-    /// The median and the 95th percentile of them.
+    /// Their median and 95th percentile.
     type Outcome = Option<(u64, u64)>;
 
     fn begin<L: PoolParts>(
@@ -78,9 +78,9 @@ impl<R: Runtime> Service<Blocking<NumberManager>, NopErrorSink, NopCustomizer, M
     }
 }
 
-/// Runs two threads of so many rounds each: the median and the 95th percentile of the nanoseconds
-/// from a return to the answer of the get that sleeps, or None where a get was not served or none
-/// slept.
+/// Runs two threads of this many rounds each. Returns the median and the 95th percentile of the
+/// nanoseconds from a return to the result of the sleeping get; None if a get was not served or
+/// none slept.
 pub fn woken<R: Runtime + Threads>(rt: R, rounds: u64) -> Option<(u64, u64)> {
     let turns = Turns {
         rt,

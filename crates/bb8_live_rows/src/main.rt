@@ -1,7 +1,7 @@
-//! Runs worked scripts of live pools: standard input has transcripts, each a title and a script
-//! with its answers beside it. Where one is answered otherwise, its title, the line, what was
-//! wanted there and what was found are written to standard output; then how many there are. The
-//! format is in docs/SCRIPTS.md, "Live pools".
+//! Runs scripts of live pools with expected results. Standard input has transcripts: each is a
+//! title and a script with its expected results. For each one that differs it writes the title, the
+//! line, the expected and the found result to standard output; at the end the number of
+//! transcripts. docs/SCRIPTS.md, "Live pools", has the format.
 #![tactic(auto)]
 
 use bb8_live_scripts::run;
@@ -9,8 +9,7 @@ use bb8_runner::report::status_of;
 use std::io;
 use std::process::ExitCode;
 
-/// Ends with the status of what came of the transcripts, and with a word on standard error where
-/// that is a fault.
+/// Exits with the status of the run; a fault is printed to standard error.
 fn main(rt: HostRuntime) -> io::Result<ExitCode> {
     let came = run(rt, &mut rt.reader(), &mut io::writer(&rt));
     if let Err(fault) = &came {

@@ -1,4 +1,4 @@
-//! What a line of a script is answered.
+//! The result of a script's line.
 
 use crate::asked::Facts;
 use bb8::{AddError, RunError, State, Turn};
@@ -6,27 +6,27 @@ use bb8_trials::{Polled, Refused, ServerConnection};
 use futures::task::Poll;
 use std::fmt;
 
-/// What a line is answered.
+/// The result of a line.
 #[derive(Clone, Copy)]
 pub enum LineAnswer {
     /// Nothing is written.
     Done,
-    /// The line is none, or does not fit.
+    /// The line is unknown, or does not fit.
     Unfit,
     Pending,
-    /// With the connection of this number.
+    /// The connection of this number.
     Served(u64),
     Built,
-    /// No connection was had at once.
+    /// No connection was available at once.
     Nothing,
     TimedOut,
     Refused(u64),
     Memory,
     Exhausted,
-    /// By a dedicated opening, or what a guard has.
+    /// The connection of a dedicated attempt or of a guard.
     Connection(Facts),
     Added,
-    /// A refused adding gives its connection back.
+    /// A refused add returns its connection.
     Broken(u64),
     Full(u64),
     Withheld(u64),
@@ -81,7 +81,7 @@ impl fmt::Display for LineAnswer {
     }
 }
 
-/// What an error is told as.
+/// Returns the result that shows an error.
 pub fn error_of(error: RunError<Refused>) -> LineAnswer {
     match error {
         RunError::User(Refused(number)) => LineAnswer::Refused(number),
@@ -91,7 +91,7 @@ pub fn error_of(error: RunError<Refused>) -> LineAnswer {
     }
 }
 
-/// What a poll is told as that does not serve.
+/// Returns the result that shows a poll without a connection.
 pub fn poll_of(polled: Polled<(), Refused>) -> LineAnswer {
     match polled {
         Poll::Pending => LineAnswer::Pending,
@@ -100,7 +100,7 @@ pub fn poll_of(polled: Polled<(), Refused>) -> LineAnswer {
     }
 }
 
-/// Why an adding was refused, and the connection that it gives back.
+/// Returns why an add was refused, and its connection.
 pub fn refusal_of(error: AddError<ServerConnection>) -> (LineAnswer, ServerConnection) {
     match error {
         AddError::Broken(connection) => (LineAnswer::Broken(connection.number), connection),

@@ -1,4 +1,4 @@
-//! The handles of a script's pool, and what they are asked for.
+//! The handles of a script's pool, and what the script calls on them.
 
 use crate::ending::{LentEnding, OwnedEnding};
 use crate::shelf::Shelf;
@@ -11,24 +11,25 @@ use futures::task::Poll;
 use futures::test::MockTask;
 use std::alloc::Global;
 
-/// A connection's number, how many checks of it were begun, and what a customizer made of it.
+/// The number of a connection, how many checks of it were begun, and its field, set by the
+/// customizer.
 pub type Facts = (u64, u64, u64);
 
-/// What a connection tells.
+/// Returns the facts of a connection.
 pub fn facts_of(connection: &ServerConnection) -> Facts {
     (connection.number, connection.checks, connection.field)
 }
 
-/// What a script asks of its pool. A call by a handle that is not there, or that such handles do
-/// not have, answers None.
+/// The calls of a script on its pool. A call on a handle that does not exist, or that such handles
+/// do not have, returns None.
 pub trait Asked: Drop {
-    /// A get, by a handle or with one of its own.
+    /// A get, which borrows a handle or has its own.
     type Get: Drop;
 
-    /// What it is served with.
+    /// Its guard.
     type Guard: Drop;
 
-    /// The opening of a connection that the pool does not count.
+    /// An attempt to open a connection that the pool does not count.
     type Dedicated: Drop;
 
     fn get(&self, handle: u64) -> Option<Self::Get>;
@@ -39,20 +40,20 @@ pub trait Asked: Drop {
 
     fn cancel(&self, get: Self::Get);
 
-    /// What a get is served with that waits for nothing.
+    /// Makes a get that never waits.
     fn try_get(&self) -> Option<Result<Option<Self::Guard>, RunError<Refused>>> {
         None
     }
 
     fn facts(guard: &Self::Guard) -> Facts;
 
-    /// The guard's connection is found broken from now on.
+    /// Marks the guard's connection as broken.
     fn spoil(guard: &mut Self::Guard);
 
-    /// The guard's connection leaves the pool for good.
+    /// Takes the guard's connection out of the pool for good.
     fn detach(guard: Self::Guard) -> ServerConnection;
 
-    /// Whether a get that is let go after its first poll is served at it.
+    /// Makes a get, polls it once and cancels it. Returns whether it was served.
     fn serves(&self, task: &MockTask, handle: u64) -> Option<bool>;
 
     fn add(
@@ -65,7 +66,7 @@ pub trait Asked: Drop {
 
     fn retire(&self, alloc: Global, handle: u64) -> Option<()>;
 
-    /// Closes the pool, by a handle.
+    /// Closes the pool by a handle.
     fn close(&self, alloc: Global, handle: u64) -> Option<()>;
 
     fn is_closed(&self, handle: u64) -> Option<bool>;
@@ -86,7 +87,7 @@ pub trait Asked: Drop {
         drop(opening);
     }
 
-    /// Another handle goes under this number.
+    /// Clones a handle under this number.
     fn clone_to(&mut self, _number: u64) -> Option<()> {
         None
     }
@@ -95,7 +96,7 @@ pub trait Asked: Drop {
         None
     }
 
-    /// Polls the building of the pool; a pool that it answers is handle 0.
+    /// Polls the build of the pool. Its pool becomes handle 0.
     fn build(&mut self, _task: &MockTask) -> Option<Polled<(), Refused>> {
         None
     }
@@ -105,7 +106,7 @@ pub trait Asked: Drop {
     }
 }
 
-/// One handle by reference, or two.
+/// One or two handles by reference.
 #[derive(Drop)]
 pub struct Lent<P: LentEnding<Server> + Drop> {
     pub first: P,
@@ -221,7 +222,7 @@ impl<P: LentEnding<Server> + Drop> Asked for Lent<P> {
     }
 }
 
-/// Handles that a script may make and drop, and the building of a pool that has none yet.
+/// Handles that the script may make and drop, or a build that has no pool yet.
 #[derive(Drop)]
 pub struct Handles<B: Unbuilt<Server, Pool: OwnedEnding<Server>>> {
     pub building: Option<B>,

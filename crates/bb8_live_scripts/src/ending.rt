@@ -7,7 +7,7 @@ use bb8_trials::{LentHandle, OwnedHandle};
 use std::alloc::Global;
 use std::sync::Wait;
 
-/// A handle by reference that can retire and close its pool, and whose guards can be detached.
+/// A handle by reference that can retire and close its pool, with guards that can be detached.
 pub trait LentEnding<M: ManageConnection>: LentHandle<M> {
     fn retire(self, alloc: Global);
 
@@ -42,7 +42,7 @@ impl<'a, G: Given<Runtime: Wait>, L: PoolParts> LentEnding<G::Manager> for &'a P
     }
 }
 
-/// As `LentEnding`, for a handle that a script may drop.
+/// As `LentEnding`, for a handle that the script may drop.
 pub trait OwnedEnding<M: ManageConnection>: OwnedHandle<M> {
     fn retire(&self, alloc: Global);
 

@@ -1,4 +1,4 @@
-//! The one place where a script's pool is built, and its parts are laid out.
+//! Builds a script's pool with its permits, in this one place.
 ghost use Rattle.std.specs.Prelude.{◌≡◌, true};
 ghost use Rattle.bb8.specs.Parts.{IsBlankOf};
 ghost use Rattle.bb8.specs.Settings.{settings_of, is_lawful};
@@ -27,8 +27,8 @@ type LivePool<R, L> = Pool<Server, Errors, Preparer, SetClock, R, L>;
 
 type LiveBuilding<R, L> = Building<Server, Errors, Preparer, SetClock, R, L>;
 
-/// The driver of a script's pool. A name in place of a bound keeps the proofs of what calls it
-/// small.
+/// The driver of a script's pool. A name instead of a bound keeps the callers' proofs small
+/// (*step-limit*).
 pub type LiveDriver<R, L> = Driver<Server, Errors, Preparer, SetClock, R, L>;
 
 type LiveBuilder = Builder<Server, Errors, Preparer>;
@@ -36,19 +36,19 @@ type LiveBuilder = Builder<Server, Errors, Preparer>;
 /// How a script's pool begins.
 #[derive(Clone, Copy)]
 struct Beginning {
-    /// How many lines stand up to there, behind the configuration.
+    /// The number of lines before it, after the configuration.
     lines: usize,
-    /// With its first connections, at the first poll of its building or the second.
+    /// The pool has its first connections after at most two polls of its build.
     built: bool,
-    /// The script polls its building.
+    /// The script polls the build itself.
     building: bool,
-    /// The script has its handles, and may drop them.
+    /// The script owns its handles, and may drop them.
     owned: bool,
     /// There is a second driver, and, by reference, a second handle.
     two: bool,
 }
 
-/// The beginning that a line is: the word `begin` and others. None where it is none.
+/// Parses the line of the beginning: `begin` and other words. None if it is another line.
 fn beginning_of(fields: &[&str], lines: usize) -> Option<Beginning> {
     let ["begin", words @ ..] = fields else {
         return None;
@@ -72,7 +72,7 @@ fn beginning_of(fields: &[&str], lines: usize) -> Option<Beginning> {
     Some(beginning)
 }
 
-/// A builder of these settings.
+/// Returns a builder with these settings.
 fn builder_of(
     board: &Arc<Board, Global>,
     config: Config,
@@ -100,7 +100,7 @@ fn builder_of(
     )
 }
 
-/// Plays the lines behind the beginning, in front of which so many stand.
+/// Runs the lines after the beginning, which is preceded by `lines` lines.
 fn perform<A: Asked, R: Runtime, L: PoolParts>(
     asked: A,
     drivers: Shelf<LiveDriver<R, L>>,
@@ -118,7 +118,7 @@ fn perform<A: Asked, R: Runtime, L: PoolParts>(
     Ok(written)
 }
 
-/// Plays a script with handles by reference.
+/// Runs a script with handles by reference.
 fn lend<P: LentEnding<Server> + Drop, R: Runtime, L: PoolParts>(
     lent: (P, Option<P>),
     drivers: Shelf<LiveDriver<R, L>>,
@@ -130,7 +130,7 @@ fn lend<P: LentEnding<Server> + Drop, R: Runtime, L: PoolParts>(
     perform(Lent { first, second }, drivers, setup, lines, beginning)
 }
 
-/// Plays a script that has its handles, or the building of its pool.
+/// Runs a script that owns its handles, or polls the build of its pool.
 fn hold<B: Unbuilt<Server, Pool: OwnedEnding<Server>>, R: Runtime, L: PoolParts>(
     held: (Option<B>, Shelf<B::Pool>),
     drivers: Shelf<LiveDriver<R, L>>,
@@ -148,8 +148,8 @@ fn hold<B: Unbuilt<Server, Pool: OwnedEnding<Server>>, R: Runtime, L: PoolParts>
     )
 }
 
-/// A pool of these settings. None where its first connections were not there after two polls of its
-/// building.
+/// Returns a pool with these settings. None if its first connections were not there after two polls
+/// of its build.
 fn pool_of<R: Runtime, L: PoolParts>(
     rt: R,
     blank: Blank,
@@ -176,7 +176,7 @@ fn pool_of<R: Runtime, L: PoolParts>(
     })
 }
 
-/// Plays a script over a pool whose parts are named.
+/// Runs a script over a pool with these permits.
 fn play_on<R: Runtime, L: PoolParts>(
     rt: R,
     blank: Blank,
@@ -227,8 +227,7 @@ fn play_on<R: Runtime, L: PoolParts>(
     lend((&pool, second), drivers, setup, lines, beginning.lines)
 }
 
-/// Sets what the lines in front of the beginning say, and answers that. None where another line
-/// stands there.
+/// Applies the lines before the beginning, and returns it. None if another line comes first.
 fn prelude(
     alloc: Global,
     board: &Board,
@@ -249,7 +248,7 @@ fn prelude(
     Ok(None)
 }
 
-/// What is written for a script of a live pool.
+/// Returns the output for a script of a live pool.
 pub fn play<R: Runtime>(rt: R, script: &str) -> Result<String, Fault> {
     let alloc = rt.alloc();
     let lines: Vec<&str> = script.split_terminator('\n').collect(alloc)?;

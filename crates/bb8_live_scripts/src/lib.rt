@@ -1,6 +1,6 @@
-//! Scripts of live pools, which are answered line by line: real pools, with a server that answers
-//! as the script says, a clock that it sets, and a driver that it turns. The format is in
-//! docs/SCRIPTS.md, "Live pools".
+//! Scripts of live pools, run line by line: real pools, with a server that replies as the script
+//! says, a clock that the script sets, and a driver that it turns. docs/SCRIPTS.md, "Live pools",
+//! has the format.
 #![tactic(auto)]
 
 use bb8::Runtime;
@@ -20,7 +20,7 @@ mod shelf;
 
 pub use answer::LineAnswer;
 
-/// Reads all transcripts, runs them on live pools, and writes what came of them.
+/// Reads all transcripts, runs them on live pools, and writes the outcome.
 pub fn run<R: Runtime, I: Source, W: Sink>(
     rt: R,
     reader: &mut I,

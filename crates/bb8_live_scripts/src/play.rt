@@ -1,4 +1,4 @@
-//! What each line of a script does.
+//! The effect of each line of a script.
 
 use crate::answer::{LineAnswer, error_of, poll_of, refusal_of};
 use crate::asked::{Asked, facts_of};
@@ -15,18 +15,18 @@ use std::alloc::{AllocError, Global};
 use std::fmt::Write;
 use std::sync::Arc;
 
-/// What stands around a script's pool.
+/// The environment of a script's pool.
 #[derive(Drop)]
 pub struct Setup {
     pub alloc: Global,
     pub clock: SetClock,
-    /// The same clock by a handle of its own.
+    /// A second handle of the same clock.
     pub copy: SetClock,
     pub board: Arc<Board, Global>,
     pub task: MockTask,
 }
 
-/// The lines of a script that set how the server answers. None where it is none of these.
+/// Runs a line that sets the server's replies. None if it is another line.
 pub fn set_board(board: &Board, verb: &str, word: &str) -> Option<LineAnswer> {
     let course = match word {
         "passes" => Some(Course::Passes),
@@ -47,7 +47,7 @@ pub fn set_board(board: &Board, verb: &str, word: &str) -> Option<LineAnswer> {
     Some(LineAnswer::Done)
 }
 
-/// A script as it is played: all that it has, each under a number.
+/// A running script, with all that it has under numbers.
 #[derive(Drop)]
 pub struct Play<A: Asked, R: Runtime, L: PoolParts> {
     asked: A,
@@ -77,7 +77,7 @@ impl<A: Asked, R: Runtime, L: PoolParts> Play<A, R, L> {
         })
     }
 
-    /// Does what a line says, and writes its answer, if it has one.
+    /// Runs a line, and writes its result, if it has one.
     pub fn line(&mut self, line: &str, written: &mut String) -> Result<(), Fault> {
         let alloc = self.setup.alloc;
         match self
@@ -108,8 +108,8 @@ impl<A: Asked, R: Runtime, L: PoolParts> Play<A, R, L> {
         }
     }
 
-    /// How many openings were begun, connections dropped, and errors taken; whether the script's
-    /// task was woken.
+    /// Returns how many attempts were begun, connections dropped, and errors taken; or whether the
+    /// script's task was woken.
     fn counted(&self, verb: &str) -> Option<LineAnswer> {
         let board = &self.setup.board;
         match verb {
@@ -121,7 +121,7 @@ impl<A: Asked, R: Runtime, L: PoolParts> Play<A, R, L> {
         }
     }
 
-    /// What a handle tells or does. A `close` with a number cancels an opening.
+    /// Runs a line that calls a handle. `close` with a number cancels an attempt.
     fn by_handle(&mut self, verb: &str, handle: u64) -> Option<LineAnswer> {
         match verb {
             "state" => self.asked.state(handle).map(LineAnswer::State),
@@ -143,7 +143,7 @@ impl<A: Asked, R: Runtime, L: PoolParts> Play<A, R, L> {
         }
     }
 
-    /// The lines of one number, that of a get or its guard for most.
+    /// Runs a line with one number, mostly that of a get or its guard.
     fn numbered(&mut self, verb: &str, n: u64) -> Option<LineAnswer> {
         match verb {
             "clock" => self.setup.clock.set(Moment(n)),
@@ -170,7 +170,7 @@ impl<A: Asked, R: Runtime, L: PoolParts> Play<A, R, L> {
         Some(LineAnswer::Done)
     }
 
-    /// The lines of two numbers, of which the second is that of a handle or a driver for most.
+    /// Runs a line with two numbers; the second one is mostly that of a handle or a driver.
     fn paired(&mut self, verb: &str, n: u64, m: u64) -> Option<LineAnswer> {
         match verb {
             "get" => self.gets.put(n, self.asked.get(m)?)?,
@@ -184,7 +184,7 @@ impl<A: Asked, R: Runtime, L: PoolParts> Play<A, R, L> {
         Some(LineAnswer::Done)
     }
 
-    /// Polls a get. Its guard goes under the get's number.
+    /// Polls a get. Its guard is kept under the get's number.
     fn poll(&mut self, n: u64) -> Option<LineAnswer> {
         let get = self.gets.get_mut(n)?;
         match self.asked.poll(&self.setup.task, get) {
@@ -200,7 +200,7 @@ impl<A: Asked, R: Runtime, L: PoolParts> Play<A, R, L> {
         Some(LineAnswer::Served(number))
     }
 
-    /// A get that waits for nothing. Its guard goes under this number.
+    /// Makes a get that never waits. Its guard is kept under this number.
     fn try_get(&mut self, n: u64) -> Option<LineAnswer> {
         match self.asked.try_get()? {
             Ok(None) => Some(LineAnswer::Nothing),
@@ -209,7 +209,7 @@ impl<A: Asked, R: Runtime, L: PoolParts> Play<A, R, L> {
         }
     }
 
-    /// A get that is dropped after its first poll.
+    /// Makes a get, polls it once and drops it.
     fn lend(&mut self, n: u64) -> Option<LineAnswer> {
         self.gets.put(n, self.asked.get(0)?)?;
         let answer = self.poll(n);
@@ -217,7 +217,7 @@ impl<A: Asked, R: Runtime, L: PoolParts> Play<A, R, L> {
         answer
     }
 
-    /// Polls a dedicated opening. Its connection goes under its number.
+    /// Polls a dedicated attempt. Its connection is kept under its number.
     fn open(&mut self, n: u64) -> Option<LineAnswer> {
         let opening = self.openings.get_mut(n)?;
         match self.asked.poll_dedicated(&self.setup.task, opening) {
@@ -227,32 +227,32 @@ impl<A: Asked, R: Runtime, L: PoolParts> Play<A, R, L> {
         }
     }
 
-    /// A guard leaves the pool with its connection, which goes under the guard's number.
+    /// Detaches a guard's connection, which is kept under the guard's number.
     fn detach(&mut self, n: u64) -> Option<LineAnswer> {
         let connection = A::detach(self.guards.take(n)?);
         self.keep(n, connection)
     }
 
-    /// A connection that is no pool's goes under this number.
+    /// Keeps a connection outside the pool under this number.
     fn keep(&mut self, n: u64, connection: ServerConnection) -> Option<LineAnswer> {
         let facts = facts_of(&connection);
         self.connections.put(n, connection)?;
         Some(LineAnswer::Connection(facts))
     }
 
-    /// A turn of a driver at this moment.
+    /// Makes a turn of a driver at this moment.
     fn turn(&mut self, moment: u64, driver: u64) -> Option<Turn> {
         Some(self.drivers.get_mut(driver)?.turn(Moment(moment)))
     }
 
-    /// A connection that no opening brought.
+    /// Makes a connection without an attempt.
     fn make(&mut self, n: u64, number: u64, is_broken: bool) -> Option<()> {
         let mut connection = connection_on(&self.setup.board, number).ok()?;
         connection.is_broken = is_broken;
         self.connections.put(n, connection)
     }
 
-    /// Adds a connection by a handle. One that is refused is there again.
+    /// Adds a connection by a handle. If it is refused, it is kept again.
     fn add(&mut self, n: u64, handle: u64) -> Option<LineAnswer> {
         let connection = self.connections.take(n)?;
         match self.asked.add(handle, connection)? {

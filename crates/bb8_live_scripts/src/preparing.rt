@@ -1,4 +1,4 @@
-//! A customizer that a script sets.
+//! A customizer that a script configures.
 
 use bb8::{CustomizeConnection, Moment};
 use bb8_trials::{Number, Refused, ServerConnection};
@@ -7,8 +7,8 @@ use futures::task::Poll;
 /// The error of a preparation.
 const UNPREPARED: u64 = 100;
 
-/// Prepares nothing, or numbers the connections that it prepares from 1, in their field: then each
-/// preparation is pending at its first poll, and those of a number above `most` fail.
+/// Prepares nothing, or numbers the connections that it prepares from 1 on, in their field. Then
+/// the first poll of each preparation is pending, and those with a number above `most` fail.
 #[derive(Drop)]
 pub struct Preparer {
     pub most: Option<u64>,

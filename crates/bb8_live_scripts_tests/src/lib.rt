@@ -1,5 +1,4 @@
-//! Tests of scripts of live pools: of transcripts that are answered otherwise, and of such as are
-//! made at random.
+//! Tests of scripts of live pools: transcripts with wrong results, and random ones.
 #![tactic(auto)]
 
 #[cfg(test)]

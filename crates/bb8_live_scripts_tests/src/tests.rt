@@ -1,12 +1,12 @@
-//! That a transcript of a live pool which is answered otherwise is told.
+//! Tests that a wrong result in a transcript of a live pool is reported.
 
 mod masses;
 
 use bb8_live_scripts::run;
 use std::test::Fail;
 
-/// A get that is served otherwise than it says, a line that does not fit, and beginnings that are
-/// none.
+/// A get with another result than the transcript says, a line that does not fit, and lines that are
+/// no beginnings.
 const WRONG: &[u8] = b"\
     == a get\n\
     config max_size=1\n\

@@ -1,4 +1,4 @@
-//! Tests of the live pool, by public items alone.
+//! Tests of the live pool, which use public items only.
 #![tactic(auto)]
 
 #[cfg(test)]

@@ -26,7 +26,7 @@ use std::sync::ledger::Blank;
 use std::test::Fail;
 use std::time::Duration;
 
-/// Ends the test where what was found is not what is wanted, and prints both.
+/// Ends the test if the found value is not the wanted one, and prints both.
 fn assert_equal<T: PartialEq + Debug + Drop>(rt: &impl Abort, found: T, wanted: T) {
     assert_eq!(rt; found, wanted);
 }
@@ -34,7 +34,7 @@ fn assert_equal<T: PartialEq + Debug + Drop>(rt: &impl Abort, found: T, wanted: 
 /// A pool whose connections are numbers.
 type SlowPool<R, L> = Pool<SlowManager, NopErrorSink, NopCustomizer, SetClock, R, L>;
 
-/// A pool of numbers, the clock that it reads, and a task that polls.
+/// A pool of numbers, its clock, and a task that polls.
 #[derive(Drop)]
 struct NumberTrial<R: Runtime, L: PoolParts> {
     pool: SlowPool<R, L>,
@@ -42,7 +42,7 @@ struct NumberTrial<R: Runtime, L: PoolParts> {
     task: MockTask,
 }
 
-/// What is done with such a pool.
+/// A trial with such a pool.
 #[derive(Clone, Copy)]
 enum Trial {
     Guards,
@@ -50,7 +50,7 @@ enum Trial {
     ListOfAges,
 }
 
-/// A trial on a pool that checks no connection.
+/// Runs a trial on a pool with the check off.
 fn tries<R: Runtime + Abort, L: PoolParts>(
     rt: R,
     blank: Blank,
@@ -74,14 +74,14 @@ fn tries<R: Runtime + Abort, L: PoolParts>(
     }
 }
 
-/// The same, with parts of its own.
+/// Runs a trial with its own permits.
 fn try_numbers<R: Runtime + Abort>(rt: R, max_size: u32, trial: Trial) -> Result<(), Fail>
     requires { 0 < max_size }
 {
     tries::<R, Brand>(rt, Blank::new(max_size as u64), max_size, trial)
 }
 
-/// Opens connection 7 at the moment 5, finds even connections valid, and calls 0 broken.
+/// Opens connection 7 at the moment 5, finds even connections valid, and reports 0 as broken.
 #[derive(Drop)]
 struct SlowManager;
 

@@ -7,8 +7,10 @@ use Rattle.bb8_ledger.specs.Ledger.{handles}
 use Rattle.bb8_core.specs.declared.answers.AddAnswer.{AddAnswer}
 use Rattle.bb8_core.specs.declared.answers.AddAnswer.TheVariants as adding
 use Rattle.bb8_core.specs.declared.answers.Started.TheVariants as starting
+use Rattle.bb8_core.specs.declared.answers.Unfit.{Unfit as Refused}
 use Rattle.bb8_core.specs.declared.answers.TryAnswer.{TryAnswer}
 use Rattle.bb8_core.specs.StepAnswers.{Starts}
+use Rattle.bb8_gets.specs.declared.home.FirstTry.{FirstTry}
 use Rattle.bb8_gets.specs.declared.home.FirstTry.TheVariants as first
 use Rattle.bb8_gets.specs.declared.home.Tried.{Tried}
 use Rattle.bb8_gets.specs.Homes.{StepsIn}
@@ -18,12 +20,13 @@ use Rattle.bb8_tables.specs.declared.keys.GetKey.{GetKey}
 use Rattle.bb8_types.specs.declared.api.configuration.Config.{Config}
 use Rattle.bb8_types.specs.declared.api.moments.Moment.{Moment}
 use Rattle.bb8_types.specs.declared.grants.Grant.{Grant}
-use Rattle.bb8_ledger.specs.Acts.{Begin, Fill, Add, Leave}
-use Rattle.bb8_ledger.specs.Answers.{Answer, Begun, Broken, Granted, Unfit}
+use Rattle.bb8_ledger.specs.Acts.{Act, Begin, Fill, Add, Leave}
+use Rattle.bb8_ledger.specs.Answers.{Answer, Begun, Broken, Exhausted, Granted, Memory, Unfit}
 use Rattle.bb8_ledger.specs.Table.{Allowed, Row, fills, add_broken}
-use Rattle.bb8_core.specs.StateView.{StateView, HasLedger, IsWithinLimits, Steps, TellsFitting}
+use Rattle.bb8_core.specs.StateView.{StateView, HasLedger, IsAsBefore, IsWithinLimits, Steps, TellsFitting}
 use Rattle.bb8_core.specs.Unfit.{answered}
 use Rattle.bb8_core.specs.Run.{opening}
+use Rattle.bb8_core.proofs.Fitting.{meets_still}
 use Rattle.bb8_core.proofs.Parts.{counted}
 use Rattle.bb8_gets.proofs.Starting.{starts_within}
 use Rattle.bb8_ledger.proofs.Effects.{by_fit}
@@ -49,6 +52,20 @@ module _ {C : Type 0} where
   starts_in old new {settings} at g t is same limits starts =
       let s = starts_within old new at g t is limits starts in
       (s.0, (same, s.1), ((counted s.0 at.0 Begin (Begun g.number) refl limits.0 s.1.1).config ∙ same, s.2), s.3)
+
+  -- a start from a state that is as before, but for what was lent, is one from the former state
+  step_still : (settings : Settings) {old mid : StateView C} (new : StateView C) (at : ℕ) (e : Act C) (a : Answer) → IsAsBefore old mid → IsWithinLimits old
+      → StepsIn settings mid at e a new → StepsIn settings old at e a new
+  step_still settings new at e a same limits (config, (_, meets)) = (sym (ap (λ (s : StateView C). s.config) same) ∙ config, (limits, meets_still new at e a same meets))
+
+  pub starts_still : {P : Type 0} (settings : Settings) (old mid new : StateView C) (at : ℕ) (r : Result (FirstTry C P) Refused) → IsAsBefore old mid → IsWithinLimits old
+      → StartsBy (StepsIn settings) mid at r new → StartsBy (StepsIn settings) old at r new
+  starts_still settings old mid new at (Ok (first.Tried g t)) same limits (between, begins, tries, out) =
+      (between, step_still settings between at Begin (Begun g.number) same limits begins, tries, out)
+  starts_still settings old mid new at (Ok first.Memory) same limits begins = step_still settings new at Begin Memory same limits begins
+  starts_still settings old mid new at (Ok first.Exhausted) same limits begins = step_still settings new at Begin Exhausted same limits begins
+  starts_still settings old mid new at (Err u) same limits (begins, as_mid) =
+      (step_still settings new at Begin Unfit same limits begins, as_mid ∙ ap (λ (s : StateView C). record s { lent = new.lent }) same)
 
   -- an adding is refused as broken just where the connection is broken
   add_row : (l : Ledger C) (at : ℕ) (c : C) (b : Bool) (a : Answer) → Row l at (Add c b) a → refuses_broken a ≡ b

@@ -1,4 +1,4 @@
--- Tasks on a pool's lock, which is taken for each of their steps alone, and by the pool's own
+-- Connection tasks on a pool's lock, which is acquired for each step alone, with the pool's own
 -- manager, customizer, error sink and clock.
 use Rattle.std.specs.Prelude.{◌≡◌, None, Result, List}
 use Rattle.bb8_lock.specs.Words.{as_nanos, DebugOf, Poll, CustomizerOf, ManagerOf, SinkOf, ClockOf, StepsIn, OpenerOf, PartsOf, LockScope, Shared}
@@ -15,22 +15,22 @@ use Rattle.bb8_lock.specs.declared.bell.Rings.{Rings}
 use Rattle.bb8_lock.specs.Bells.{RingsFor}
 use Rattle.bb8_lock.specs.Scope.{Scope, Own, Rung, StartsAt}
 
--- A step on what is held, or else on whatever stands behind the lock, which is taken for it. Its
--- bells are rung. Nothing is held then, and what was noted stays so.
+-- A step on the held data, or else on whatever is under the lock, which is acquired for it. Its
+-- signals are notified. Afterwards the lock is free, and the noted signals are as before.
 abbrev pub Visits : {S T C : Type 0} → (S → Rings → Type 0) → (T → T → Type 0) → TaskStep C → LockScope S T → LockScope S T → Type 0
 Visits {T = T} Rung Step s x x' =
     ((t : T) × (t' : T) × StartsAt x.held t × Step t t') × RingsFor (Rung x.shared.now) s
     × (x'.held ≡ None) × (x'.rings ≡ x.rings) × (x'.shared ≡ x.shared)
 
--- What a pool does with its tasks, of which handles and guards share this: on the pool's lock, and
--- by its own manager, customizer, error sink and clock.
+-- What a pool does with its tasks, given what its handles and guards share: on the pool's lock,
+-- with its own manager, customizer, error sink and clock.
 module _ {G L M S Z K R C E N V A : Type 0} {m : ManagerOf M C E N V} {d : DebugOf E} {s : SinkOf S E} {z : CustomizerOf Z C E A} {k : ClockOf K} {l : PartsOf L}
     (shared : Shared G L M S Z K R C E N V A m d s z k l) where
   -- the relations of the lock as a home of tasks
   abbrev pub tasks_home : HomeOf (Scope shared) C
   tasks_home = record { steps = λ x at s x'. Visits (Rung shared) (λ t t'. TaskStepsBy (StepsIn l.settings) t.core at s t'.core) s x x' }
 
-  -- the relations of the calls of a pool's manager, customizer, clock and error sink
+  -- the relations of the callbacks of a pool's manager, customizer, clock and error sink
   abbrev pub opener : OpenerOf (Scope shared) C E N A
   opener = record {
     tells = λ x at x'. k.tells x.shared.now.clock at × (x' ≡ x);
@@ -44,21 +44,21 @@ module _ {G L M S Z K R C E N V A : Type 0} {m : ManagerOf M C E N V} {d : Debug
     lets_go = λ x _ x'. x' ≡ x;
   }
 
-  -- a round of the tasks that open the pool's first connections, which stops at the first failure
+  -- a round of the tasks that open the pool's first connections; it stops at the first failure
   abbrev pub OwnRounds : List (Replenish C N A) → Round (List (Replenish C N A)) E → Type 0
   OwnRounds tasks round =
       Own shared (AtReading opener.tells (λ at x x'. Rounds (TaskPolls tasks_home opener (as_nanos shared.config.connection_timeout) shared.config.retry_connection at)
       opener.sinks (LetsGo tasks_home opener at) tasks x round x'))
 
-  -- the tasks of the pool are let go: what each holds is let go, and its approval given back
+  -- the tasks of the pool are cancelled: each drops what it holds, and its approval is given back
   abbrev pub OwnDropsTasks : List (Replenish C N A) → Type 0
   OwnDropsTasks tasks = Own shared (AtReading opener.tells (λ at. LetsGoEach (LetsGo tasks_home opener at) tasks))
 
-  -- a poll of the opening of a connection that the pool does not count
+  -- a poll of an attempt to open a connection that the pool does not count
   abbrev pub OwnDedicates : Dedicated C N A → Poll (Result C E) → Dedicated C N A → Type 0
   OwnDedicates opening answer opening' =
       Own shared (λ x x'. dedicating.OpeningPolls opener opening x answer opening' x')
 
-  -- such an opening is let go
+  -- such an attempt is cancelled
   abbrev pub OwnDropsOpening : Dedicated C N A → Type 0
   OwnDropsOpening opening = Own shared (dedicating.DropsOpening opener opening.stage)

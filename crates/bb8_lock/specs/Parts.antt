@@ -1,4 +1,4 @@
--- The parts by which a pool's connections are counted, and how a pool begins.
+-- The permits that count a pool's connections, and how a pool begins.
 use Rattle.std.specs.Prelude.{◌≡◌, ℕ, Bool, false}
 use Rattle.std.specs.declared.sync.ledger.Blank.{Blank}
 use Rattle.bb8_types.specs.declared.api.moments.Moment.{Moment}
@@ -10,25 +10,25 @@ use Rattle.bb8_ledger.specs.Ledger.{Later, opening_with}
 use Rattle.bb8_ledger.specs.Table.{Allowed}
 use Rattle.bb8_core.specs.StateView.{StateView, Represents}
 
--- The blank of a pool with these settings: it has a name, and a part for each connection; the parts
--- are those of such a pool.
+-- The blank of a pool with these settings: it has a name, and a permit for each connection; the
+-- permits belong to such a pool.
 pub record IsBlankOf (blank : Blank) (settings : Settings) (name parts : ℕ) (of : Settings) : Type 0 where
   pub named : blank.name ≡ name
   pub cut : blank.parts ≡ parts
   pub sized : blank.parts ≡ settings.max_size
   pub settled : of ≡ settings
 
--- the default settings, but for the size, and with no check of what is handed out
+-- the default settings with this size, and without a check at check-out
 abbrev pub unchecked_of : ℕ → Settings
 unchecked_of size = record default_settings { max_size = size; test_on_check_out = false }
 
--- A pool's state begins as this is granted for its first connections, claimed or not. Nothing of it
--- was withheld.
+-- How a pool's state begins: with this grant for its first connections, claimed or not. Nothing of
+-- it was withheld.
 abbrev pub PoolBegins : {C : Type 0} → Settings → Bool → ℕ → Grant → StateView C → Type 0
 PoolBegins {C} settings claimed at grant s =
     (grant.withheld ≡ 0) × Allowed {C = C} (opening_with settings 0 0) at (Fill claimed) (Granted grant)
     × Represents {C = C} (Later (opening_with settings 0 0) at (Fill claimed) (Granted grant)) s
 
--- some state begins so, at a reading of the clock
+-- some state begins so, at a clock reading
 abbrev pub HasBegun : (C : Type 0) → (Moment → Type 0) → Settings → Bool → Grant → Type 0
 HasBegun C Tells settings claimed grant = (at : Moment) × Tells at × ((s : StateView C) × PoolBegins settings claimed at.0 grant s)

@@ -1,5 +1,5 @@
--- What gets, guards and handles do on a pool: the tables at what a pool's lock holds, while it is
--- held, and at the pool's own manager, error sink and clock.
+-- What gets, guards and handles do on a pool: the tables over the data under the pool's lock, while
+-- it is held, and over the pool's own manager, error sink and clock.
 use Rattle.std.specs.Prelude.{◌≡◌, ℕ, eqb, None, Option, Some, Result, Ok, Err, ⊤, Bool}
 use Rattle.bb8_lock.specs.Words.{MutexGuard, DebugOf, Poll, Ready, Pending, AddError, RunError, State, ManagerOf, SinkOf, CustomizerOf, ClockOf, settings_of, HomeOf, Taken, OutsideOf, Stage, Joining, Locked, Part, PartsOf, LockScope, Shared, GetPolls, Cancels}
 use Rattle.std.specs.Sync.Mutex.{mutex_guard_value}
@@ -11,8 +11,7 @@ use Rattle.bb8_lock.specs.declared.bell.Rests.{Ghosts as RestsOf}
 use Rattle.bb8_lock.specs.declared.handle.Handle.{Handle}
 
 module _ {T : Type 0} where
-  -- a step starts at this: at what is held, or, where nothing is, at whatever stands behind the
-  -- lock
+  -- the data at which a step starts: what is held, or, if the lock is free, whatever is under it
   abbrev pub StartsAt : Option (MutexGuard T) → T → Type 0
   StartsAt (Some guard) t = mutex_guard_value guard ≡ t
   StartsAt None t = ⊤
@@ -22,52 +21,52 @@ module _ {T : Type 0} where
   Holds (Some guard) t = mutex_guard_value guard ≡ t
   Holds None t = ⊥
 
-  -- a step leads from what is held, or else stands behind the lock, to what is held then
+  -- a step leads from the held data, or else from whatever is under the lock, to the data held then
   abbrev pub LeadsHeld : (T → T → Type 0) → Option (MutexGuard T) → Option (MutexGuard T) → Type 0
   LeadsHeld Step held held' = (t : T) × (t' : T) × StartsAt held t × Holds held' t' × Step t t'
 
--- A lock with what is called outside of it, as one value.
+-- A lock with the user callbacks outside it, as one value.
 module _ {S T : Type 0} where
-  -- these are shared, the lock is free, and no bell is noted
+  -- the scope shares this; the lock is free, and no signal is noted
   abbrev pub IsScopeOf : S → LockScope S T → Type 0
   IsScopeOf shared x = (x.shared.now ≡ shared) × (x.held ≡ None) × (x.rings ≡ silent)
 
-  -- A step leads from what is held, or else stands behind the lock, to what is held then. Its
-  -- bells, which may depend on that, are noted beside those that were, and no others.
+  -- A step leads from the held data, or else from whatever is under the lock, to the data held
+  -- then. Its signals, which may depend on that, are added to the noted ones, and no others.
   abbrev pub Leads : (T → T → Type 0) → (T → Rings) → LockScope S T → LockScope S T → Type 0
   Leads Step its_bells x x' =
       LeadsHeld (λ t t'. Step t t' × (x'.rings ≡ joined (its_bells t') x.rings)) x.held x'.held × (x'.shared ≡ x.shared)
 
-  -- the bells that were noted are rung; nothing is held then, and no bell is noted
+  -- the noted signals are notified; afterwards the lock is free, and no signal is noted
   abbrev pub Frees : (S → Rings → Type 0) → LockScope S T → LockScope S T → Type 0
   Frees Rung x x' = Rung x.shared.now x.rings × (x'.held ≡ None) × (x'.rings ≡ silent) × (x'.shared ≡ x.shared)
 
--- What the gets, guards and handles of a pool do, which share this: on the pool's lock, and by its
+-- What a pool's gets, guards and handles do, given what they share: on the pool's lock, with its
 -- own manager, error sink and clock.
 module _ {G L M S Z K R C E N V A : Type 0} {m : ManagerOf M C E N V} {d : DebugOf E} {s : SinkOf S E} {z : CustomizerOf Z C E A} {k : ClockOf K} {l : PartsOf L}
     (shared : Shared G L M S Z K R C E N V A m d s z k l) where
-  -- the pool's lock with what the pool calls outside
+  -- the pool's lock with its user callbacks
   abbrev pub Scope : Type 0
   Scope = LockScope (Shared G L M S Z K R C E N V A m d s z k l) (Locked C L l)
 
-  -- bells of the pool were rung, of which no relation tells
+  -- signals of the pool were notified; no relation says more
   abbrev pub Rung : Shared G L M S Z K R C E N V A m d s z k l → Rings → Type 0
   Rung _ _ = ⊤
 
-  -- this is done by it
+  -- `Does` is done on a fresh scope of the pool
   abbrev pub Own : (Scope → Scope → Type 0) → Type 0
   Own Does = (x : Scope) × (x' : Scope) × IsScopeOf shared x × Does x x'
 
-  -- The relations of the lock as a home. While it is held each step starts where the one before
-  -- ended; once it was let go, the next one starts at whatever stands behind it. What a step
-  -- answers follows from that very state, which keeps the limits.
+  -- The relations of the lock as a home. While it is held, each step starts where the one before
+  -- ended. Once it was released, the next one starts at whatever is under it. A step's result
+  -- follows from that very state, which keeps the limits.
   abbrev pub gets : HomeOf Scope C (Part L) Handle
   gets = record {
     releases = λ x x'. Frees Rung x x';
     steps = λ x at s x'. Leads (λ t t'. StepsBy l.settings t.core at s t'.core) (λ t'. get_bells (eqb t'.core.handles 0) s) x x';
   }
 
-  -- the relations of the calls of its manager, error sink and clock
+  -- the relations of the callbacks of its manager, error sink and clock
   abbrev pub calls : OutsideOf Scope C E V
   calls = record {
     tells = λ x moment x'. k.tells x.shared.now.clock moment × (x' ≡ x);
@@ -87,7 +86,7 @@ module _ {G L M S Z K R C E N V A : Type 0} {m : ManagerOf M C E N V} {d : Debug
   abbrev pub OwnPolls : Stage C V (Part L) → Poll (Result (Taken C (Part L)) (RunError E)) → Stage C V (Part L) → Type 0
   OwnPolls stage r stage' = Own (λ x x'. GetPolls gets calls (settings_of shared.config).connection_timeout stage x (record { answer = r; stage = stage' }) x')
 
-  -- what the polls of such a get answer at last
+  -- the final result of the polls of such a get
   abbrev pub OwnGives : Stage C V (Part L) → Result (Taken C (Part L)) (RunError E) → Type 0
   OwnGives stage x = Answers OwnPolls stage x
 
@@ -95,39 +94,40 @@ module _ {G L M S Z K R C E N V A : Type 0} {m : ManagerOf M C E N V} {d : Debug
   abbrev pub OwnWaits : ℕ → Result (Taken C (Part L)) (RunError E) → Type 0
   OwnWaits timeout result = Own (λ x x'. Waits gets calls rests timeout x result x')
 
-  -- A connection is taken at once, or none.
+  -- A connection is taken at once, or None.
   abbrev pub OwnTakesNow : Result (Option (Taken C (Part L))) (RunError E) → Type 0
   OwnTakesNow result = Own (λ x x'. TakesNow gets calls (settings_of shared.config).connection_timeout x result x')
 
-  -- A get is let go by the table; one that has a handle, and then the handle.
+  -- A get is cancelled by the table; if it has its own handle, that leaves then.
   abbrev pub OwnCancels : Stage C V (Part L) → Type 0
   OwnCancels stage = Own (Cancels gets calls stage)
 
   abbrev pub OwnCancelsAndLeaves : Stage C V (Part L) → Type 0
   OwnCancelsAndLeaves stage = Own (CancelsAndLeaves gets calls stage)
 
-  -- A guard's connection comes back; where the guard has a handle, that leaves then.
+  -- A guard's connection is returned; if the guard has its own handle, that leaves then.
   abbrev pub OwnReturns : Taken C (Part L) → Type 0
   OwnReturns taken = Own (Returns gets calls taken)
 
   abbrev pub OwnReturnsAndLeaves : Taken C (Part L) → Type 0
   OwnReturnsAndLeaves taken = Own (ReturnsAndLeaves gets calls taken)
 
-  -- A guard's connection leaves the pool for good; where the guard has a handle, that leaves then.
+  -- A guard's connection leaves the pool for good; if the guard has its own handle, that leaves
+  -- then.
   abbrev pub OwnDetaches : Taken C (Part L) → Type 0
   OwnDetaches taken = Own (Detaches gets calls taken)
 
   abbrev pub OwnDetachesAndLeaves : Taken C (Part L) → Type 0
   OwnDetachesAndLeaves taken = Own (DetachesAndLeaves gets calls taken)
 
-  -- one handle more is made or refused, and one leaves
+  -- one more handle is made or refused; and a handle leaves
   abbrev pub OwnJoins : Joining Handle → Type 0
   OwnJoins answer = Own (λ x x'. Joins gets calls x answer x')
 
   abbrev pub OwnLeaves : Type 0
   OwnLeaves = Own (HandleLeaves gets calls)
 
-  -- the pool is closed, with a list for `max_size` connections, and it tells whether it is
+  -- the pool is closed, with a list for `max_size` connections; and whether it is closed
   abbrev pub OwnCloses : Type 0
   OwnCloses = Own (Closes gets calls (settings_of shared.config).max_size)
 
@@ -142,17 +142,17 @@ module _ {G L M S Z K R C E N V A : Type 0} {m : ManagerOf M C E N V} {d : Debug
   abbrev pub OwnRetires : Type 0
   OwnRetires = Own (Retires gets calls (settings_of shared.config).max_size)
 
-  -- the pool tells of itself
+  -- the pool returns its statistics
   abbrev pub OwnShows : State → Type 0
   OwnShows state = Own (λ x x'. Shows gets calls x state x')
 
--- a guard is made of what was served, and an error is passed on
+-- a guard is made of a served connection; an error is passed on
 abbrev pub MakesGuard : {A B E : Type 0} → (A → B → Type 0) → Result A E → Result B E → Type 0
 MakesGuard Makes (Ok a) (Ok b) = Makes a b
 MakesGuard Makes (Err e) (Err f) = e ≡ f
 MakesGuard Makes _ _ = ⊥
 
--- a poll's answer with a guard in place of what was served
+-- a poll's result, with a guard in place of the served connection
 abbrev pub MakesPoll : {A B E : Type 0} → (A → B → Type 0) → Poll (Result A E) → Poll (Result B E) → Type 0
 MakesPoll Makes (Ready a) (Ready b) = MakesGuard Makes a b
 MakesPoll Makes Pending Pending = ⊤

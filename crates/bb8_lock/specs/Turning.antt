@@ -1,5 +1,5 @@
--- The turns of a driver on a pool's lock, which is taken for each step alone, and by the pool's own
--- manager, customizer, error sink and clock.
+-- The turns of a driver on a pool's lock, which is acquired for each step alone, with the pool's
+-- own manager, customizer, error sink and clock.
 use Rattle.bb8_lock.specs.Words.{as_nanos, DebugOf, CustomizerOf, ManagerOf, SinkOf, ClockOf, Moment, PartsOf, Shared}
 use Rattle.bb8_tasks.specs.declared.turning.Turn.{Turn}
 use Rattle.bb8_tasks.specs.declared.turning.Turning.{Turning}
@@ -16,7 +16,7 @@ module _ {G L M S Z K R C E N V A : Type 0} {m : ManagerOf M C E N V} {d : Debug
       Own shared (λ x x'. DriverTurns (tasks_home shared) (opener shared) (as_nanos shared.config.connection_timeout)
       shared.config.retry_connection at turning x turn turning' x')
 
-  -- a driver is let go: the clock is read, and then each of its tasks is let go, and its approval
+  -- a driver is ended: the clock is read, then each of its tasks is cancelled and its approval
   -- given back
   abbrev pub OwnDropsTurning : Turning C N A → Type 0
   OwnDropsTurning turning = Own shared (AtReading (opener shared).tells (λ at. DriverLetsGo (tasks_home shared) (opener shared) at turning))

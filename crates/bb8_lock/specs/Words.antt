@@ -1,4 +1,4 @@
--- The words that the definitions speak with.
+-- Names that the definitions use (*words-file*).
 pub use Rattle.futures.specs.declared.task.Poll.{Poll}
 pub use Rattle.futures.specs.declared.task.Poll.TheVariants.{Ready, Pending}
 pub use Rattle.bb8_types.specs.declared.api.errors.AddError.{AddError}

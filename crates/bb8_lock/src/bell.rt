@@ -1,5 +1,5 @@
-//! A lock with bells: a thread that waits for what another one does under the lock sleeps until a
-//! bell is rung.
+//! A lock with signals: threads sleep on a signal until another thread, after its critical section,
+//! notifies it.
 
 ghost use Rattle.std.specs.Prelude.{◌≡◌, ℕ};
 ghost use Rattle.std.specs.Duration.{as_nanos};
@@ -16,63 +16,65 @@ use bb8_gets::Tried;
 use std::sync::{Condvar, Mutex, MutexGuard, Wait};
 use std::time::Duration;
 
-/// A bell, until whose rings threads sleep.
+/// A signal on which threads sleep until it is notified.
 #[derive(Drop)]
 pub struct Bell {
     rung: Condvar,
 }
 
-/// A lock, and the bells that are rung once it was let go.
+/// A lock, and the signals that are notified after it was released.
 #[derive(Drop)]
 pub struct Belled<T> {
     pub(crate) lock: Mutex<T>,
-    /// Rung where a waiting get was notified, or the pool was closed.
+    /// Notified when a waiting get was notified, or the pool was closed.
     pub gets: Bell,
-    /// Rung where an approval was granted, or no handle is alive any more.
+    /// Notified when an approval was granted, or no handle is alive any more.
     pub drivers: Bell,
 }
 
-/// Whose thread sleeps, and so by which bell.
+/// Whose thread sleeps, and so on which signal.
 #[derive(Clone, Copy)]
 pub enum Sleeper {
-    /// A waiting get's.
+    /// That of a waiting get.
     Get,
-    /// A driver's.
+    /// That of a driver.
     Driver,
 }
 
-/// What a thread sleeps by.
+/// How a thread sleeps.
 pub trait Rests {
-    // Holds before the count of the rings of a sleeper's bell is read, of the count, and after it.
+    // Holds before the notifications of a sleeper's signal are counted, of their number, and after
+    // it.
     ghost counts: { Self → SleeperOf → ℕ → Self → Type 0 };
 
-    // Holds before a sleep that a ring of the sleeper's bell past this count ends, of the
-    // nanoseconds that it lasts at most, and after it.
+    // Holds before a sleep on the sleeper's signal, of the number of notifications past which it
+    // ends, of its greatest length in nanoseconds, and after it.
     ghost sleeps: { Self → SleeperOf → ℕ → ℕ → Self → Type 0 };
 
-    /// How often the sleeper's bell was rung.
+    /// Returns how often the sleeper's signal was notified.
     fn rings(&mut self, sleeper: Sleeper) -> u64
         ensures { counts self.old sleeper result self.new };
 
-    /// Sleeps until the sleeper's bell was rung more often than so often, and so long at most.
+    /// Sleeps until the sleeper's signal was notified more than `rings` times, and at most for
+    /// `most`.
     fn sleep(&mut self, sleeper: Sleeper, rings: u64, most: Duration)
         ensures { sleeps self.old sleeper rings (as_nanos most) self.new };
 }
 
-/// What a lock is reached by, as methods of an impl, so that polls and drops can call them.
+/// How a lock is acquired and its signals notified. (A trait because of *trait-for-threads*.)
 pub trait Locking<T> {
-    // Holds of what is shared, and of bells of it that were rung.
+    // Holds of the shared data, and of signals of it that were notified.
     ghost rung: { Self → RingsOf → Type 0 };
 
-    /// Waits for the lock and takes it.
+    /// Acquires the lock, waiting for it if it is held.
     fn take(&self) -> MutexGuard<'_, T>;
 
-    /// Rings these bells.
+    /// Notifies these signals.
     fn ring(&self, rings: Rings)
         ensures { rung self.now rings };
 }
 
-/// Which bells are to be rung once the lock is let go.
+/// The signals to notify once the lock is released.
 #[derive(Clone, Copy)]
 pub struct Rings {
     gets: bool,
@@ -80,34 +82,34 @@ pub struct Rings {
 }
 
 impl Bell {
-    /// A bell that was not rung.
+    /// Returns a signal that was not notified yet.
     pub fn new() -> Self {
         Bell {
             rung: Condvar::new(),
         }
     }
 
-    /// How often the bell was rung, wrapping. Who reads it before the look at what it waits for
-    /// loses no ring between the look and its sleep.
+    /// Returns how often the signal was notified, wrapping. A thread that reads it before it checks
+    /// its condition loses no notification between the check and its sleep.
     pub fn rings(&self) -> u64 {
         self.rung.notifications()
     }
 
-    /// Wakes all that sleep.
+    /// Wakes all sleepers.
     #[cold]
     pub fn ring(&self) {
         self.rung.notify_all();
     }
 
-    /// Sleeps until the bell was rung more often than so often, and so long at most. It may end
-    /// early.
+    /// Sleeps until the signal was notified more than `rings` times, and at most for `most`. It may
+    /// end early.
     pub fn sleep<R: Wait>(&self, rt: &R, rings: u64, most: Duration) {
         self.rung.sleep(rt, rings, most);
     }
 }
 
 impl<T> Belled<T> {
-    /// A lock that is free, whose bells were not rung.
+    /// Returns a free lock, with signals that were not notified yet.
     pub fn new(value: T) -> Self {
         Belled {
             lock: Mutex::new(value),
@@ -116,13 +118,13 @@ impl<T> Belled<T> {
         }
     }
 
-    /// What the lock holds.
+    /// Returns the protected data.
     pub fn into_inner(self) -> T {
         let Belled { lock, .. } = self;
         lock.into_inner()
     }
 
-    /// The bell of this sleeper.
+    /// Returns the signal of this sleeper.
     pub(crate) fn bell(&self, sleeper: Sleeper) -> &Bell {
         match sleeper {
             Sleeper::Get => &self.gets,
@@ -130,7 +132,7 @@ impl<T> Belled<T> {
         }
     }
 
-    /// Rings these bells.
+    /// Notifies these signals.
     #[inline(always)]
     pub(crate) fn ring(&self, rings: Rings) {
         if rings.gets {
@@ -143,7 +145,7 @@ impl<T> Belled<T> {
 }
 
 impl Rings {
-    /// No bell.
+    /// Returns no signal.
     #[inline(always)]
     pub(crate) fn none() -> Self
         ensures { result ≡ silent }
@@ -154,8 +156,8 @@ impl Rings {
         }
     }
 
-    /// That of the gets where a get was notified, which may be served at its next poll. That of the
-    /// drivers where approvals were granted, which a driver claims at its next turn.
+    /// Returns the gets' signal if a get was notified, which may be served at its next poll, and
+    /// the drivers' signal if approvals were granted, which a driver claims at its next turn.
     #[inline(always)]
     pub(crate) fn of(notified: Option<GetKey>, granted: u32) -> Self
         ensures { result ≡ bells (notified_of notified) granted }
@@ -166,7 +168,7 @@ impl Rings {
         }
     }
 
-    /// The same besides.
+    /// Adds these signals.
     #[inline(always)]
     pub(crate) fn note(&mut self, notified: Option<GetKey>, granted: u32)
         ensures { self.new ≡ joined (bells (notified_of notified) granted) self.old }
@@ -176,7 +178,7 @@ impl Rings {
         self.drivers = more.drivers | self.drivers;
     }
 
-    /// Both besides, if no handle is alive any more: waiting gets and drivers end then.
+    /// Adds both signals if no handle is alive any more: waiting gets and drivers end then.
     #[inline(always)]
     pub(crate) fn note_over(&mut self, over: bool)
         ensures { self.new ≡ joined (record { gets = over; drivers = over }) self.old }
@@ -185,7 +187,7 @@ impl Rings {
         self.drivers = over | self.drivers;
     }
 
-    /// Those of a try besides.
+    /// Adds the signals of a try.
     #[inline(always)]
     pub(crate) fn note_try<C, P>(&mut self, tried: &Tried<C, P>)
         ensures { self.new ≡ joined (bells_of (answer_of_tried tried.now)) self.old }
@@ -197,7 +199,7 @@ impl Rings {
         }
     }
 
-    /// Those of a give-up besides.
+    /// Adds the signals of a give-up.
     pub(crate) fn note_give_up<C, E>(&mut self, answer: &Result<GiveUpAnswer<C>, E>)
         ensures { self.new ≡ joined (bells_of (answered answer_of_give_up answer.now)) self.old }
     {

@@ -1,6 +1,6 @@
-//! What guards and handles do with a pool, over any home and any calls outside.
+//! What guards and handles do with a pool, over any home and any user callbacks.
 //!
-//! The home is released after each section, before anything else is called.
+//! The home is released after each critical section, before any other callback.
 ghost use Rattle.std.specs.Prelude.{◌≡◌};
 ghost use Rattle.std.specs.Duration.{as_nanos};
 ghost use Rattle.bb8_lock.specs.Chains.{AddsOutside, AfterReturn, CancelsAndLeaves, IsTold, Joins, HandleLeaves, Returns, ReturnsAndLeaves, Retires, RetiresInto, Shows, TakesNow, TriesOnce, Closes, ClosesInto, Detaches, DetachesAndLeaves, DropsEach, IsListFor, TellsClosed};
@@ -12,8 +12,8 @@ use futures::task::Poll;
 use std::alloc::Global;
 use std::time::Duration;
 
-/// A guard's connection comes back: it is asked whether it is broken, the clock is read, and the
-/// home takes it back and is released. What does not stay is dropped then.
+/// Returns a guard's connection: asks whether it is broken, reads the clock, gives it to the home
+/// and releases the home. If the pool does not keep the connection, it is dropped then.
 pub fn give_back<C, V, P, E, X: GetHome<C, Part = P> + Outside<C, E, Checking = V>>(
     pool: &mut X,
     taken: Taken<C, P>,
@@ -27,7 +27,7 @@ pub fn give_back<C, V, P, E, X: GetHome<C, Part = P> + Outside<C, E, Checking = 
     drop_closed(pool, answer);
 }
 
-/// A connection that does not stay as it comes back is dropped.
+/// Drops a returned connection that the pool does not keep.
 fn drop_closed<C, E, X: Outside<C, E>>(pool: &mut X, answer: Result<PutBackAnswer<C>, C>)
     ensures { AfterReturn X.Outside answer pool.old pool.new }
 {
@@ -38,8 +38,8 @@ fn drop_closed<C, E, X: Outside<C, E>>(pool: &mut X, answer: Result<PutBackAnswe
     }
 }
 
-/// A connection is added: it is asked whether it is broken, the clock is read, and the home takes
-/// or refuses it and is released.
+/// Adds a connection: asks whether it is broken, reads the clock, offers it to the home and
+/// releases the home.
 pub fn add<C, V, P, E, X: GetHome<C, Part = P> + Outside<C, E, Checking = V>>(
     pool: &mut X,
     mut conn: C,
@@ -53,8 +53,8 @@ pub fn add<C, V, P, E, X: GetHome<C, Part = P> + Outside<C, E, Checking = V>>(
     told(answer)
 }
 
-/// What the caller of an adding is told. A pool whose last handle left would have no capacity;
-/// whoever calls it has one.
+/// Turns the result of an add into the caller's. A pool whose last handle left would have no
+/// capacity, but the caller has a handle.
 fn told<C>(answer: Result<AddAnswer<C>, C>) -> Result<(), AddError<C>>
     ensures { IsTold answer result }
 {
@@ -66,7 +66,7 @@ fn told<C>(answer: Result<AddAnswer<C>, C>) -> Result<(), AddError<C>>
     }
 }
 
-/// What the home tells of itself, at a reading of the clock.
+/// Returns the home's statistics at a clock reading.
 pub fn state<C, V, P, E, X: GetHome<C, Part = P> + Outside<C, E, Checking = V>>(
     pool: &mut X,
 ) -> State
@@ -78,8 +78,8 @@ pub fn state<C, V, P, E, X: GetHome<C, Part = P> + Outside<C, E, Checking = V>>(
     state
 }
 
-/// A connection at once, or none. Where the home has none idle no get begins; else one tries once
-/// under the same taking, and is let go where that did not answer it.
+/// Returns a connection at once, or None. If the home has none idle, no get begins. Otherwise one
+/// get tries once in the same critical section, and is cancelled if it has no result.
 pub fn take_now<C, V, P, E, X: GetHome<C, Part = P> + Outside<C, E, Checking = V>>(
     pool: &mut X,
     timeout: Duration,
@@ -97,7 +97,7 @@ pub fn take_now<C, V, P, E, X: GetHome<C, Part = P> + Outside<C, E, Checking = V
     try_once(pool, moment, timeout)
 }
 
-/// A get begins and tries at a moment, and is let go where that did not answer it.
+/// Begins a get that tries once at this moment, and cancels it if it has no result.
 fn try_once<C, V, P, E, X: GetHome<C, Part = P> + Outside<C, E, Checking = V>>(
     pool: &mut X,
     moment: Moment,
@@ -117,7 +117,7 @@ fn try_once<C, V, P, E, X: GetHome<C, Part = P> + Outside<C, E, Checking = V>>(
     }
 }
 
-/// One handle more is counted, or refused, at a reading of the clock.
+/// Asks the home for one more handle at a clock reading.
 pub fn join<C, V, P, E, X: GetHome<C, Part = P> + Outside<C, E, Checking = V>>(
     pool: &mut X,
 ) -> Joining<X::Handle>
@@ -129,8 +129,8 @@ pub fn join<C, V, P, E, X: GetHome<C, Part = P> + Outside<C, E, Checking = V>>(
     answer
 }
 
-/// A handle leaves, at a reading of the clock. What the last one closes is dropped before the home
-/// is released.
+/// Takes a handle away at a clock reading. Connections that the last one closes are dropped before
+/// the home is released.
 pub fn leave<C, V, P, E, X: GetHome<C, Part = P> + Outside<C, E, Checking = V>>(
     pool: &mut X,
     handle: X::Handle,
@@ -142,7 +142,7 @@ pub fn leave<C, V, P, E, X: GetHome<C, Part = P> + Outside<C, E, Checking = V>>(
     pool.release();
 }
 
-/// The connection of a guard that has a handle comes back, and then the handle leaves.
+/// Returns the connection of a guard with its own handle, and then takes the handle away.
 pub fn give_back_and_leave<C, V, P, E, X: GetHome<C, Part = P> + Outside<C, E, Checking = V>>(
     pool: &mut X,
     taken: Taken<C, P>,
@@ -154,7 +154,7 @@ pub fn give_back_and_leave<C, V, P, E, X: GetHome<C, Part = P> + Outside<C, E, C
     leave(pool, handle);
 }
 
-/// A get that has a handle is let go, the home is released, and then the handle leaves.
+/// Cancels a get with its own handle, releases the home, and then takes the handle away.
 pub fn cancel_and_leave<C, V, P, E, X: GetHome<C, Part = P> + Outside<C, E, Checking = V>>(
     pool: &mut X,
     get: GetState<C, V, P>,
@@ -167,9 +167,9 @@ pub fn cancel_and_leave<C, V, P, E, X: GetHome<C, Part = P> + Outside<C, E, Chec
     leave(pool, handle);
 }
 
-/// All connections are retired: a list for so many is made, the clock is read, and the home retires
-/// and is released. Then those that were closed are dropped. If memory for the list is refused, the
-/// home drops them.
+/// Retires all connections: makes a list for `size` connections, reads the clock, has the home
+/// retire them, and releases the home. Then the closed connections are dropped. If memory for the
+/// list is refused, the home drops them.
 pub fn retire<C: Drop, V, P, E, X: GetHome<C, Part = P> + Outside<C, E, Checking = V>>(
     pool: &mut X,
     alloc: Global,
@@ -181,7 +181,7 @@ pub fn retire<C: Drop, V, P, E, X: GetHome<C, Part = P> + Outside<C, E, Checking
     retire_into(pool, list);
 }
 
-/// All connections are retired, and then those are dropped that the home put into the list.
+/// Retires all connections, then drops those that the home put into the list.
 fn retire_into<C: Drop, V, P, E, X: GetHome<C, Part = P> + Outside<C, E, Checking = V>>(
     pool: &mut X,
     mut retired: ClosedList<C>,
@@ -194,8 +194,8 @@ fn retire_into<C: Drop, V, P, E, X: GetHome<C, Part = P> + Outside<C, E, Checkin
     drop_each(pool, retired);
 }
 
-/// The connection of a guard leaves the pool for good: the clock is read, the home ends its record
-/// and is released. Nothing is asked of it.
+/// Takes the connection of a guard out of the pool for good: reads the clock, ends its record in
+/// the home and releases the home. The connection is not asked whether it is broken.
 pub fn detach<C, V, P, E, X: GetHome<C, Part = P> + Outside<C, E, Checking = V>>(
     pool: &mut X,
     taken: Taken<C, P>,
@@ -214,8 +214,8 @@ pub fn detach<C, V, P, E, X: GetHome<C, Part = P> + Outside<C, E, Checking = V>>
     connection
 }
 
-/// The connection of a guard that has a handle leaves the pool for good, and then the handle
-/// leaves.
+/// Takes the connection of a guard with its own handle out of the pool for good, and then takes the
+/// handle away.
 pub fn detach_and_leave<C, V, P, E, X: GetHome<C, Part = P> + Outside<C, E, Checking = V>>(
     pool: &mut X,
     taken: Taken<C, P>,
@@ -229,9 +229,9 @@ pub fn detach_and_leave<C, V, P, E, X: GetHome<C, Part = P> + Outside<C, E, Chec
     connection
 }
 
-/// The pool is closed: a list for so many connections is made, the clock is read, and the home
-/// takes all handles away and is released. Then what that closed is dropped. If memory for the list
-/// is refused, the home drops it.
+/// Closes the pool: makes a list for `size` connections, reads the clock, has the home end all
+/// handles, and releases the home. Then the closed connections are dropped. If memory for the list
+/// is refused, the home drops them.
 pub fn close<C: Drop, V, P, E, X: GetHome<C, Part = P> + Outside<C, E, Checking = V>>(
     pool: &mut X,
     alloc: Global,
@@ -243,7 +243,8 @@ pub fn close<C: Drop, V, P, E, X: GetHome<C, Part = P> + Outside<C, E, Checking 
     close_into(pool, list);
 }
 
-/// An empty list for so many closed connections; it has no room if memory for it is refused.
+/// Returns an empty list with capacity for `size` closed connections, or for none if memory is
+/// refused.
 fn list_for<C: Drop>(alloc: Global, size: u32) -> ClosedList<C>
     ensures { IsListFor size result }
 {
@@ -252,7 +253,7 @@ fn list_for<C: Drop>(alloc: Global, size: u32) -> ClosedList<C>
     list
 }
 
-/// The pool is closed, and then what the home put into the list is dropped.
+/// Closes the pool, then drops the connections that the home put into the list.
 fn close_into<C: Drop, V, P, E, X: GetHome<C, Part = P> + Outside<C, E, Checking = V>>(
     pool: &mut X,
     mut list: ClosedList<C>,
@@ -265,7 +266,7 @@ fn close_into<C: Drop, V, P, E, X: GetHome<C, Part = P> + Outside<C, E, Checking
     drop_each(pool, list);
 }
 
-/// Closed connections are dropped, in line.
+/// Drops closed connections, one after another.
 fn drop_each<C: Drop, E, X: Outside<C, E>>(pool: &mut X, mut list: ClosedList<C>)
     ensures { DropsEach X.Outside list.items pool.old pool.new }
 {
@@ -274,7 +275,7 @@ fn drop_each<C: Drop, E, X: Outside<C, E>>(pool: &mut X, mut list: ClosedList<C>
     }
 }
 
-/// Whether no handle of the home is alive, at a reading of the clock.
+/// Whether no handle of the home is alive, at a clock reading.
 pub fn is_closed<C, V, P, E, X: GetHome<C, Part = P> + Outside<C, E, Checking = V>>(
     pool: &mut X,
 ) -> bool

@@ -1,4 +1,4 @@
-//! Parts that are held together.
+//! Several permits held together.
 ghost use Rattle.std.specs.Prelude.{◌≡◌, ℕ, ◌+◌, ◌<◌, ◌≤◌};
 ghost use Rattle.bb8_lock.specs.Gathered.{number_in};
 
@@ -6,7 +6,7 @@ use crate::Part;
 use std::marker::Model;
 use std::sync::ledger::{Ledger, Share, Total};
 
-/// Some of the parts, or none. Contracts see how many they are.
+/// Any number of permits, also none. Contracts see their number.
 #[derive(Drop)]
 pub struct Gathered<L: Ledger> {
     share: Option<Share<L>>,
@@ -21,14 +21,14 @@ impl<L: Ledger> Model for Gathered<L> {
 }
 
 impl<L: Ledger> Gathered<L> {
-    /// No part.
+    /// Returns no permit.
     pub fn none() -> Self
         ensures { result ≡ 0 }
     {
         Gathered { share: None }
     }
 
-    /// Takes one part more. There are never more than the total.
+    /// Adds a permit. There are never more than the total.
     pub fn put(&mut self, part: Part<L>, total: &Total<L>)
         ensures one_more { self.new ≡ self.old + 1 }
         ensures within { self.new ≤ total.now.amount }
@@ -41,7 +41,7 @@ impl<L: Ledger> Gathered<L> {
         self.share = Some(all);
     }
 
-    /// Gives one part back.
+    /// Takes a permit out.
     pub fn take_one(&mut self) -> Part<L>
         requires { 0 < self.old }
         ensures { self.new + 1 ≡ self.old }

@@ -1,11 +1,11 @@
-//! What stands outside a pool, in one type.
+//! The user's types of a pool, as one type.
 use crate::Locks;
 use bb8_core::api::{Clock, CustomizeConnection, ErrorSink, ManageConnection};
 use std::fmt::Debug;
 use std::marker::PhantomData;
 
-/// What a pool is given from outside, and the types that come with it. `These` is the one
-/// implementer.
+/// The user's types of one pool: manager, sink, customizer, clock, runtime, and their own types.
+/// `These` is the only implementer.
 pub trait Given: Drop + 'static {
     /// The manager.
     type Manager: ManageConnection<
@@ -15,10 +15,10 @@ pub trait Given: Drop + 'static {
         Checking = Self::Checking,
     >;
 
-    /// Where errors go that no caller waits for.
+    /// The sink of errors that no caller waits for.
     type Sink: ErrorSink<Self::Error>;
 
-    /// What prepares connections.
+    /// The customizer, which prepares connections.
     type Customizer: CustomizeConnection<
         Self::Connection,
         Self::Error,
@@ -28,7 +28,7 @@ pub trait Given: Drop + 'static {
     /// The clock.
     type Clock: Clock;
 
-    /// The runtime that the lock needs.
+    /// The runtime that acquires the lock.
     type Runtime: Locks;
 
     /// The manager's connections.
@@ -37,7 +37,7 @@ pub trait Given: Drop + 'static {
     /// The manager's errors.
     type Error: Debug + Send + Drop + 'static;
 
-    /// The manager's openings.
+    /// The manager's connection attempts.
     type Connecting: Send + Drop + 'static;
 
     /// The manager's checks.
@@ -47,8 +47,7 @@ pub trait Given: Drop + 'static {
     type Acquiring: Send + Drop + 'static;
 }
 
-/// A manager, an error sink, a customizer, a clock and a runtime, as one type, of which there is no
-/// value.
+/// A manager, an error sink, a customizer, a clock and a runtime, as one type. It has no values.
 #[derive(Drop)]
 pub struct These<M, S, Z, K, R> {
     which: PhantomData<(M, S, Z, K, R)>,

@@ -1,13 +1,13 @@
-//! The handles of a pool, and what drivers end by.
+//! The handles of a pool, and how drivers see that none is left.
 ghost use Rattle.std.specs.Prelude.{◌≡◌, Bool};
 
-/// A handle that is alive. The opening of a pool and `GetHome::join` make one, and `GetHome::leave`
-/// alone takes one: it cannot be dropped.
+/// A handle that is alive. Only making a pool and `GetHome::join` create one, and only
+/// `GetHome::leave` takes one: it cannot be dropped.
 pub struct Handle {
     pub(crate) _alive: (),
 }
 
-/// What drivers end by.
+/// Tells drivers when to end. (A trait because of *trait-for-threads*.)
 pub trait Ends {
     // Whether no handle is alive.
     ghost over: { Self → Bool };

@@ -1,8 +1,7 @@
-//! What a pool's lock holds as a home of gets, guards and handles: what is done to it under one
-//! taking of the lock.
+//! The data under a pool's lock as the home of gets, guards and handles: the critical sections.
 //!
-//! A section is lent the state, and asks for one step. No manager, customizer, sink or clock is
-//! called here.
+//! Each critical section borrows the state and makes one step. No manager, customizer, sink or
+//! clock is called here.
 ghost use Rattle.std.specs.Prelude.{◌≡◌, ◌+◌, ◌≤◌, IfOk, Some};
 ghost use Rattle.bb8_ledger.specs.Acts as acts;
 ghost use Rattle.bb8_core.specs.Unfit.{OrComesBack, Stepped};
@@ -23,8 +22,8 @@ use bb8_core::internals::{
 use bb8_gets::{FirstTry, GetHome, Joining, Passed, Returned, Taken, Tried};
 use std::sync::ledger::Share;
 
-/// A try's answer, where one of the parts goes with a connection. The state already has it out, and
-/// within the size.
+/// Turns a try's result into one with a permit for its connection, if it has one. The state already
+/// counts the connection as checked out, within the size.
 #[inline(always)]
 fn hand_out<C: Drop, L: Parts>(
     core: &PoolInternals<C>,
@@ -63,7 +62,7 @@ fn hand_out<C: Drop, L: Parts>(
 }
 
 impl<C: Drop, L: Parts> Locked<C, L> {
-    /// Begins a get that is not served at once, and lets it try.
+    /// Begins a get that `serve_at_once` did not serve, and lets it try.
     #[inline(never)]
     fn start_on(&mut self, at: Moment) -> Result<FirstTry<C, Part<L>>, Unfit>
         ensures { StartsBy (StepsIn L.settings) self.old.core at.0 result self.new.core }
@@ -78,8 +77,8 @@ impl<C: Drop, L: Parts> Locked<C, L> {
     }
 }
 
-/// Each step leads from the state that stands there to the next one. A connection goes out with one
-/// of the parts, and comes back with it.
+/// Each step leads from the state under the lock to the next one. A connection is checked out with
+/// a permit and returned with it.
 impl<C: Drop, L: Parts> GetHome<C> for Locked<C, L> {
     type Part = Part<L>;
 
@@ -89,7 +88,7 @@ impl<C: Drop, L: Parts> GetHome<C> for Locked<C, L> {
 
     ghost steps = { λ h at s h'. StepsBy L.settings h.core at s h'.core };
 
-    /// Whoever has the lock lets go of it.
+    /// The caller that holds the lock releases it.
     fn release(&mut self) {}
 
     fn look(&mut self, at: Moment) -> Looked {
@@ -97,7 +96,7 @@ impl<C: Drop, L: Parts> GetHome<C> for Locked<C, L> {
         core.look(at)
     }
 
-    /// A get is served at once where connections go out unchecked and that takes no memory.
+    /// Serves a get at once if connections are handed out unchecked and no memory is needed.
     #[inline(always)]
     fn start(&mut self, at: Moment) -> Result<FirstTry<C, Part<L>>, Unfit> {
         let Locked { core, rest, .. } = self;
@@ -118,7 +117,7 @@ impl<C: Drop, L: Parts> GetHome<C> for Locked<C, L> {
                 Ok(FirstTry::Tried(get, hand_out(core, rest, told)))
             }
             None => {
-                // (in a place of its own, as in `GetState::poll_with`)
+                // (a place of its own because of *value-in-memory*)
                 let first = self.start_on(at);
                 first
             }

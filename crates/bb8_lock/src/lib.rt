@@ -1,8 +1,7 @@
-//! The lock of a pool: what it holds, what is done to that under one taking, and what takes it. The
-//! first are the state and the parts by which connections out are counted. The others are a get's
-//! polls, a guard's return, adding, the figures, a handle that is counted or leaves, the tasks that
-//! open connections, and the turns of a driver; manager, customizer, sink and clock are called
-//! while the lock is free.
+//! The lock of a pool: what it protects, its critical sections, and who acquires it. It protects
+//! the state and the permits that count checked-out connections. It is acquired by the polls of a
+//! get, the return of a guard, adding, statistics, handles that join or leave, connection tasks,
+//! and the turns of a driver. Manager, customizer, sink and clock are called while it is free.
 #![tactic(auto)]
 
 mod bell;

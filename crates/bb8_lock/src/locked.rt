@@ -1,4 +1,4 @@
-//! What the lock of a pool holds.
+//! The data that a pool's lock protects.
 ghost use Rattle.std.specs.Prelude.{◌≡◌, ◌+◌, ◌^◌, ◌<◌, ◌≤◌, eqb, true, IfOk};
 ghost use Rattle.bb8_types.specs.Settings.{Settings, default_settings, is_lawful, settings_of};
 ghost use Rattle.bb8_lock.specs.Parts.{PoolBegins, IsBlankOf};
@@ -11,11 +11,10 @@ use std::alloc::Global;
 use std::marker::Brand;
 use std::sync::ledger::{Blank, Ledger, Share, Total};
 
-/// The parts by which the connections of one pool are counted, as many as its `max_size`, and the
-/// settings of that pool. They tie what the lock holds to what stands beside the lock: of one
-/// pool's parts there is one value of settings.
+/// The permits of one pool, `max_size` of them, and the pool's settings. They tie the data under
+/// the lock to the data beside it: the permits of one pool have one value of settings.
 pub trait Parts: Ledger {
-    // The settings of the pool that the parts are of.
+    // The settings of the permits' pool.
     ghost settings: { Settings };
 }
 
@@ -23,14 +22,14 @@ impl Parts for Brand {
     ghost settings = { default_settings };
 }
 
-/// The parts of a pool that threads share. A program names `Brand`.
+/// The permits of a pool that threads share. Programs name `Brand`.
 pub trait PoolParts: Parts + Send + Sync {}
 
 impl PoolParts for Brand {}
 
-/// What the lock holds: the state, which has the pool's settings, and the parts that go with no
-/// connection. Each connection that is out has one part with it, so parts and connections out are
-/// together as many as `max_size`.
+/// The data under the lock: the state, which has the pool's settings, and the unused permits. Each
+/// checked-out connection has one permit with it, so unused permits plus checked-out connections
+/// always equal `max_size`.
 #[derive(Drop)]
 pub struct Locked<C, L: Parts> {
     pub(crate) core: PoolInternals<C>,
@@ -40,7 +39,7 @@ pub struct Locked<C, L: Parts> {
     ghost settled: { core.config ≡ L.settings },
 }
 
-/// One of the parts. It cannot be let go but by a section that takes it back.
+/// A permit. It cannot be dropped implicitly: a critical section takes it back.
 pub struct Part<L: Ledger> {
     pub share: Share<L>,
     ghost one: { share.parts ≡ 1 },
@@ -48,7 +47,7 @@ pub struct Part<L: Ledger> {
 }
 
 impl<L: Parts> Part<L> {
-    /// A part of the rest, for a connection that goes out.
+    /// Splits a permit off the unused ones, for a connection that is checked out.
     #[inline(always)]
     pub(crate) fn cut(rest: &mut Share<L>) -> Self
         requires parts { 1 ≤ rest.old.parts }
@@ -60,7 +59,7 @@ impl<L: Parts> Part<L> {
         Part { share }
     }
 
-    /// The part joins the rest where its connection was taken back, and is let go where that did
+    /// Returns the permit to the unused ones if its connection was taken back; drops it if that did
     /// not fit.
     #[inline(always)]
     pub(crate) fn settle<C, A>(self, rest: &mut Share<L>, answer: &Result<A, C>)
@@ -75,11 +74,11 @@ impl<L: Parts> Part<L> {
     }
 }
 
-/// What a new pool is made of.
+/// The parts of a new pool.
 pub struct NewPool<C, L: Parts> {
-    /// How many parts there are.
+    /// The total number of permits.
     pub total: Total<L>,
-    /// What its lock holds.
+    /// The data under its lock.
     pub locked: Locked<C, L>,
     /// Its one handle.
     pub handle: Handle,
@@ -87,8 +86,8 @@ pub struct NewPool<C, L: Parts> {
     pub grant: Grant,
 }
 
-/// Lays out the parts of a new pool beside its state, which has nothing out; the total says how
-/// many there are.
+/// Makes the permits of a new pool, whose state has no connection checked out. The total is their
+/// number.
 fn lay_out_parts<C: Drop, L: Parts>(
     core: PoolInternals<C>,
     blank: Blank,
@@ -106,8 +105,8 @@ fn lay_out_parts<C: Drop, L: Parts>(
     (book.close(), Locked { core, rest })
 }
 
-/// A new pool with one handle: its lock holds the state with the pool's settings, its first
-/// approvals, which are claimed or not, and its parts. It fails where memory for an approval is
+/// Makes a new pool with one handle: its lock protects the state with the pool's settings, its
+/// first approvals, claimed or not, and its permits. Returns `Memory` if memory for an approval is
 /// refused.
 pub fn begin_pool<C: Drop, L: Parts>(
     alloc: Global,

@@ -1,5 +1,4 @@
-//! What a pool's lock holds as a home of the tasks that open connections, of its driver, and of its
-//! reaper.
+//! The data under a pool's lock as the home of connection tasks, its driver and its reaper.
 ghost use Rattle.bb8_gets.specs.Homes.{StepsIn};
 ghost use Rattle.bb8_tasks.specs.Homes.{TaskStepsBy};
 
@@ -11,7 +10,7 @@ use bb8_core::internals::{
 use bb8_gets::GetHome;
 use bb8_tasks::Home;
 
-/// Each step leads from the state that stands there to the next one.
+/// Each step leads from the state under the lock to the next one.
 impl<C: Drop, L: Parts> Home<C> for Locked<C, L> {
     ghost steps = { λ h at s h'. TaskStepsBy (StepsIn L.settings) h.core at s h'.core };
 
@@ -34,7 +33,7 @@ impl<C: Drop, L: Parts> Home<C> for Locked<C, L> {
         core.claim(at)
     }
 
-    /// The connections that it closes are dropped under the lock.
+    /// Drops the connections that it closes under the lock.
     fn reap(&mut self, at: Moment) -> ReapAnswer {
         let Locked { core, .. } = self;
         core.reap(at)

@@ -1,4 +1,4 @@
-//! What a pool calls outside of its lock: its manager, error sink, customizer and clock.
+//! The user callbacks of a pool, made outside its lock: manager, error sink, customizer and clock.
 ghost use Rattle.std.specs.Prelude.{◌≡◌};
 
 use crate::{Given, LockScope, Locked, Parts, Rests, Shared, Sleeper};
@@ -9,8 +9,8 @@ use futures::task::Poll;
 use std::sync::Wait;
 use std::time::Duration;
 
-/// Each relation is the user's own, and no call changes what is called, nor whether the lock is
-/// held.
+/// Each relation is the user's own. No callback changes the value that it is made on, nor whether
+/// the lock is held.
 impl<G: Given, L: Parts> Outside<G::Connection, G::Error>
     for LockScope<'_, Shared<G, L>, Locked<G::Connection, L>> {
     type Checking = G::Checking;
@@ -63,7 +63,7 @@ impl<G: Given, L: Parts> Outside<G::Connection, G::Error>
     }
 }
 
-/// By the bells of the pool's lock.
+/// Sleeps on the signals of the pool's lock.
 impl<G: Given<Runtime: Wait>, L: Parts> Rests
     for LockScope<'_, Shared<G, L>, Locked<G::Connection, L>> {
     ghost counts = { λ x _ _ x'. x' ≡ x };

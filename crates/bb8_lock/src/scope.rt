@@ -1,5 +1,4 @@
-//! A pool's lock as a home of gets, guards and handles, and of the tasks that open connections, of
-//! the driver and of the reaper.
+//! A pool's lock as the home of gets, guards, handles, connection tasks, the driver and the reaper.
 ghost use Rattle.std.specs.Prelude.{◌≡◌, None, ⊤};
 ghost use Rattle.bb8_gets.specs.Steps.{Fails, GivesBack, PutsBack};
 ghost use Rattle.bb8_lock.specs.Bells.{get_bells};
@@ -20,18 +19,17 @@ use bb8_gets::{FirstTry, GetHome, Joining, LetGo, Passed, Returned, Taken, Tried
 use bb8_tasks::Home;
 use std::sync::MutexGuard;
 
-/// A lock with what is called outside of it. It is taken at a step where it is not held, and held
-/// until it is released. After the release the bells are rung, each once, for which a step since
-/// then gave cause.
+/// A lock with the user callbacks outside it. Its first step acquires the lock, which is then held
+/// until `release`. After the release each signal is notified once for which a step gave cause.
 pub struct LockScope<'a, S: Locking<T>, T> {
     pub(crate) shared: &'a S,
     held: Option<MutexGuard<'a, T>>,
     rings: Rings,
 }
 
-/// The making of such a value, as a method of an impl, too.
+/// Opens a lock scope. (A trait because of *trait-for-threads*.)
 pub trait OpensScope<S: Locking<T>, T> {
-    /// What the handles share, as such a value. The lock is not held.
+    /// Returns a scope over what the handles share. The lock is not held yet.
     fn scope(&self) -> LockScope<'_, S, T>;
 }
 
@@ -77,7 +75,7 @@ impl<S: Locking<T>, T> Drop for LockScope<'_, S, T> {
     }
 }
 
-/// It is dropped.
+/// A scope is closed by dropping it.
 impl<S: Locking<T>, T> LetGo for LockScope<'_, S, T> {
     ghost goes = { λ x. S.rung x.shared.now x.rings };
 
@@ -87,11 +85,11 @@ impl<S: Locking<T>, T> LetGo for LockScope<'_, S, T> {
     }
 }
 
-/// What a step of such a home begins with, as a method of an impl, so that its steps can call it.
+/// How a step of a scope begins. (A trait because of *trait-for-threads*.)
 pub trait Hold {
     type Guard;
 
-    /// What is held, or else the lock is taken.
+    /// Returns the held guard, or acquires the lock.
     fn hold(&mut self) -> Self::Guard;
 }
 
@@ -304,7 +302,7 @@ impl<C, S: Locking<T>, T: GetHome<C> + Ends> GetHome<C> for LockScope<'_, S, T> 
     }
 }
 
-/// The lock is taken for each step, and is free again when the step has answered.
+/// Acquires the lock for each step and releases it after the step.
 impl<C, S: Locking<T>, T: Home<C>> Home<C> for LockScope<'_, S, T> {
     ghost use Rattle.bb8_lock.specs.Opening.{Visits};
 
@@ -344,6 +342,9 @@ impl<C, S: Locking<T>, T: Home<C>> Home<C> for LockScope<'_, S, T> {
 
     fn ask(&mut self, at: Moment) -> Grant {
         let mut guard = self.hold();
-        guard.ask(at)
+        let grant = guard.ask(at);
+        drop(guard);
+        self.shared.ring(Rings::of(None, grant.count));
+        grant
     }
 }

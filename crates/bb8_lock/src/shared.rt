@@ -17,7 +17,7 @@ pub struct Shared<G: Given, L: Parts> {
     pub config: Config,
     /// The clock's moment at which the pool was made.
     pub made: Moment,
-    /// How many parts there are, for whoever holds several of them.
+    /// The total number of permits, for lists that hold several.
     pub total: Total<L>,
     pub locked: Belled<Locked<G::Connection, L>>,
     ghost whole: { total.amount ≡ config.max_size },

@@ -1,4 +1,4 @@
-//! What a thread does that waits for a connection of a pool.
+//! Blocking: a thread that waits for a connection of a pool.
 ghost use Rattle.std.specs.Duration.{as_nanos};
 ghost use Rattle.bb8_lock.specs.Chains.{Waits};
 
@@ -9,9 +9,9 @@ use futures::task::Poll;
 use std::sync::Wait;
 use std::time::Duration;
 
-/// A get that has so much time is polled until it answers. Between two polls the thread sleeps
-/// until the bell is rung, and no longer than the get may rest. The count of the rings is read
-/// before the poll, so that no ring between the poll and the sleep is lost.
+/// Polls a get with this timeout until it resolves. Between two polls the thread sleeps until the
+/// gets' signal is notified, and no longer than the get may rest. Notifications are counted before
+/// the poll, so that none between the poll and the sleep is lost.
 pub fn wait<C, V, P, E, X: GetHome<C, Part = P> + Outside<C, E, Checking = V> + Rests, R: Wait>(
     pool: &mut X,
     rt: &R,

@@ -1,5 +1,5 @@
-//! Tests of live pools, by public items alone: of services, of drivers, and with parts that change
-//! their answers at every call.
+//! Tests of live pools, which use public items only: services, drivers, and user callbacks whose
+//! results change at every call.
 #![tactic(auto)]
 
 #[cfg(test)]

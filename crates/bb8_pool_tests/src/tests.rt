@@ -11,7 +11,7 @@ mod waiting;
 use std::fmt::Debug;
 use std::process::Abort;
 
-/// Ends the test where what was found is not what is wanted, and prints both.
+/// Ends the test if the found value is not the wanted one, and prints both.
 fn assert_equal<T: PartialEq + Debug + Drop>(rt: &impl Abort, found: T, wanted: T) {
     assert_eq!(rt; found, wanted);
 }

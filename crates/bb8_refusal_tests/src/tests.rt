@@ -1,7 +1,7 @@
-//! Runs in which memory is refused: the Nth request for it of each test, or all from the Nth on.
-//! They hold with a refusal and without. `gate/refusals/run`, at the top of the repository, makes
-//! them for every N. What they share: connections whose board counts each one's drops, and what
-//! tells whether a run met a refusal.
+//! Runs in which memory is refused: the Nth request of each test, or all from the Nth on. The tests
+//! hold with and without a refusal. `gate/refusals/run`, at the top of the repository, runs them
+//! for every N. What they share: connections whose board counts each one's drops, and how to see
+//! whether a run met a refusal.
 
 mod bare;
 mod live;
@@ -15,7 +15,7 @@ use std::fmt::Debug;
 use std::process::Abort;
 use std::sync::Arc;
 
-/// Ends the test where what was found is not what is wanted, and prints both.
+/// Ends the test if the found value is not the wanted one, and prints both.
 fn assert_equal<T: PartialEq + Debug + Drop>(rt: &impl Abort, found: T, wanted: T) {
     assert_eq!(rt; found, wanted);
 }
@@ -25,13 +25,13 @@ fn is_refused(alloc: Global) -> bool {
     Box::new(alloc, 0_u8).is_err()
 }
 
-/// Whether the run that has ended is known to have met no refusal: the first request after it is
-/// granted, and the second is refused.
+/// Whether the run that has ended certainly met no refusal: the first request after it is granted,
+/// and the second is refused.
 fn is_refused_afterwards(alloc: Global) -> bool {
     !is_refused(alloc) && is_refused(alloc)
 }
 
-/// One connection more of a board, which takes no memory.
+/// Makes one more connection of a board, without memory.
 fn make(board: &Arc<Board, Global>) -> Result<ServerConnection, Memory> {
     connection_on(board, board.begun.count())
 }

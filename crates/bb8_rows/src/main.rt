@@ -1,7 +1,7 @@
-//! Runs worked scripts: standard input has transcripts, each a title and a script with its answers
-//! beside it. Where one is answered otherwise, its title, the line, what was wanted there and what
-//! was found are written to standard output; then how many there are. The format is in
-//! docs/SCRIPTS.md.
+//! Runs worked scripts. Standard input has transcripts: each is a title and a script with its
+//! expected results. For each one that differs it writes the title, the line, the expected and the
+//! found result to standard output; at the end the number of transcripts. docs/SCRIPTS.md has the
+//! format.
 #![tactic(auto)]
 
 use bb8_runner::fault::Fault;
@@ -14,7 +14,7 @@ use std::process::ExitCode;
 #[cfg(test)]
 mod tests;
 
-/// Answers the scripts of a bare pool.
+/// Runs scripts on a bare pool.
 #[derive(Clone, Copy)]
 struct Bare;
 
@@ -27,8 +27,7 @@ impl Answers for Bare {
     }
 }
 
-/// Ends with the status of what came of the transcripts, and with a word on standard error where
-/// that is a fault.
+/// Exits with the status of the run; a fault is printed to standard error.
 fn main(rt: HostRuntime) -> io::Result<ExitCode> {
     let came = run(rt.alloc(), &Bare, &mut rt.reader(), &mut io::writer(&rt));
     if let Err(fault) = &came {

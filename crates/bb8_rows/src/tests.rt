@@ -1,10 +1,9 @@
-//! That a transcript which is answered otherwise is told.
+//! Tests that a wrong result in a transcript is reported.
 
 use super::{Bare, run};
 use std::test::Fail;
 
-/// One transcript that is answered as it says, and one whose third answer is wrong, and the fourth,
-/// too.
+/// A transcript with right results, and one whose third and fourth results are wrong.
 const WRONG_ANSWER: &[u8] = b"\
     what stands before the first title is no transcript\n\
     == nothing happens\n\
@@ -23,8 +22,8 @@ const WRONG_ANSWER_TOLD: &[u8] = b"\
     line 11, one is added twice: wanted \"added 2\", found \"added 1\"\n\
     transcripts 2 answers 5 not run 0 different 1\n";
 
-/// A transcript without its state line, one of a bad line with an answer too many, one with a line
-/// too many, and one that is not run.
+/// A transcript without its state line, one with a bad line and a result too many, one with a line
+/// too many, and one that does not run.
 const WRONG_LENGTH: &[u8] = b"\
     == no state line\n\
     config\n\
@@ -48,7 +47,7 @@ const WRONG_LENGTH_TOLD: &[u8] = b"\
     line 12, an event without an answer: wanted nothing, found \"looked 5 open\"\n\
     transcripts 3 answers 4 not run 1 different 3\n";
 
-/// What is written for an input.
+/// Returns the output for an input.
 fn written(rt: &HostRuntime, input: &[u8]) -> Result<Vec<u8>, Fail> {
     let mut reader = input;
     let mut written = Vec::new(rt.alloc());

@@ -1,10 +1,10 @@
--- What the arguments of the program ask for.
+-- The arguments of the program.
 use Rattle.std.specs.Prelude.{ℕ, List, [], ◌∷◌, Option, Some, None, nat_lt, ◌&&◌, if◌then◌else◌, codes, option_and_then}
 use Rattle.bb8_runner.specs.Words.{bytes_eq, Script, Threads}
 use Rattle.bb8_runner.specs.Grammar.{number_of}
 use Rattle.bb8_runner.specs.declared.threads.arguments.Mode.{Mode}
 
--- so many threads, where they are from 1 to 64
+-- this many threads, None if they are not from 1 to 64
 abbrev pub threads_of : ℕ → Option Mode
 threads_of n = if nat_lt 0 n && nat_lt n 65 then Some (Threads n) else None
 

@@ -1,20 +1,20 @@
--- What the lines of a script are read as.
+-- The grammar of a script's lines.
 use Rattle.std.specs.Prelude.{ℕ, ◌^◌, ◌==◌, nat_lt, List, [], ◌∷◌, true, false, ◌&&◌, if◌then◌else◌, Option, Some, None, codes, decimal, option_and_then, option_map, unwrap_or}
 use Rattle.bb8_runner.specs.Words.{slice_split, bytes_eq, Act, Begin, Try, CheckedOk, CheckedErr, GiveUp, PutBack, Detach, Fill, Ask, Claim, Opened, Failed, Add, Reap, Retire, State, Join, Leave, Close, Look, TimedOut, Cancelled, Event}
 use Rattle.std.specs.Str.Parse.{digits_value}
 
--- what the second gives for the value of the first, where there is one
+-- the second function applied to the value of the first, if there is one
 infixl 10 ◌>>=◌
--- the second reading of what the first one read
+-- the second function applied to the value of the first, if there is one
 abbrev pub ◌>>=◌ : {A B : Type 0} → Option A → (A → Option B) → Option B
 o >>= f = option_and_then f o
 
--- The number below 2 ^ k that the field is: the field is just what the number prints as, so it is
--- digits with no sign and no leading zero.
+-- The number below 2 ^ k that a field is: exactly the text that the number prints as, so digits
+-- without sign or leading zero.
 unfoldable pub number_of : ℕ → List ℕ → Option ℕ
 number_of k field = if bytes_eq field (decimal (digits_value 10 field)) && nat_lt (digits_value 10 field) (2 ^ k) then Some (digits_value 10 field) else None
 
--- the verbs with no argument
+-- the verbs without argument
 abbrev pub plain_act : List ℕ → Option Act
 plain_act verb =
     if bytes_eq verb (codes "begin") then Some Begin
@@ -65,18 +65,18 @@ broken_act verb n =
 abbrev pub flagged_act : List ℕ → List ℕ → List ℕ → Option Act
 flagged_act verb arg word = if bytes_eq word (codes "broken") then (number_of 64 arg >>= broken_act verb) else None
 
--- what a verb and its arguments say
+-- the act of a verb with its arguments
 unfoldable pub act_of : List ℕ → List (List ℕ) → Option Act
 act_of verb [] = plain_act verb
 act_of verb (arg ∷ []) = unwrap_or (option_map (numbered_act verb) (number_of 64 arg)) (worded_act verb arg)
 act_of verb (arg ∷ word ∷ []) = flagged_act verb arg word
 act_of verb (arg ∷ word ∷ more ∷ rest) = None
 
--- a line's fields: what stands between its spaces
+-- the fields of a line, which spaces separate
 abbrev pub fields_of : List ℕ → List (List ℕ)
 fields_of line = slice_split (λ b. b == 32) line
 
--- the event that the fields are: a moment, a verb and its arguments
+-- the event of these fields: a moment, a verb and its arguments
 unfoldable pub event_of_fields : List (List ℕ) → Option Event
 event_of_fields (moment ∷ verb ∷ args) = do
   at ← number_of 64 moment
@@ -84,6 +84,6 @@ event_of_fields (moment ∷ verb ∷ args) = do
   Some (record { at = record { 0 = at }; act = act })
 event_of_fields _ = None
 
--- the event that the line is
+-- the event of a line
 abbrev pub event_of : List ℕ → Option Event
 event_of line = event_of_fields (fields_of line)

@@ -1,10 +1,10 @@
--- What the first line of a script is read as.
+-- The grammar of a script's first line.
 use Rattle.std.specs.Prelude.{ℕ, ◌==◌, List, [], ◌∷◌, length, Bool, true, false, if◌then◌else◌, Option, Some, None, codes, option_map, unwrap_or}
 use Rattle.bb8_runner.specs.Words.{before_first, after_first, position_or_len, bytes_eq, QueueStrategy, Fifo, Lifo, Settings, default_settings, is_lawful}
 use Rattle.bb8_runner.specs.declared.overrides.Overrides.{Overrides}
 use Rattle.bb8_runner.specs.Grammar.{◌>>=◌, number_of, fields_of}
 
--- a setting's name and value: what stands before and after its first `=`
+-- a setting's name and value, which its first `=` separates
 unfoldable pub cut : List ℕ → Option (List ℕ × List ℕ)
 cut field = if position_or_len (λ b. b == 61) field == length field then None else Some (before_first (λ b. b == 61) field, after_first (λ b. b == 61) field)
 
@@ -20,12 +20,12 @@ strategy_of value = if bytes_eq value (codes "fifo") then Some Fifo else (if byt
 unfoldable pub limit_of : ℕ → List ℕ → Option (Option ℕ)
 limit_of k value = if bytes_eq value (codes "none") then Some None else option_map Some (number_of k value)
 
--- the value of a setting that was not yet set
+-- the value of a setting that was not set before
 abbrev pub once : {A : Type 0} → Option A → Option A → Option (Option A)
 once None (Some new) = Some (Some new)
 once _ _ = None
 
--- what is set, with one setting more
+-- the settings with one more
 unfoldable pub with_setting : Overrides → List ℕ → List ℕ → Option Overrides
 with_setting o name value =
     if bytes_eq name (codes "max_size") then option_map (λ v. record o { max_size = v }) (once o.max_size (number_of 32 value))
@@ -40,7 +40,7 @@ with_setting o name value =
     else (if bytes_eq name (codes "strategy") then option_map (λ v. record o { strategy = v }) (once o.strategy (strategy_of value))
     else None)))))))))
 
--- what is set, with the settings that the fields are
+-- the settings with those of these fields
 unfoldable pub overrides_from : Overrides → List (List ℕ) → Option Overrides
 overrides_from o [] = Some o
 overrides_from o (field ∷ fields) = do
@@ -48,11 +48,11 @@ overrides_from o (field ∷ fields) = do
   p ← with_setting o parts.0 parts.1
   overrides_from p fields
 
--- nothing is set
+-- no settings
 abbrev pub nothing_set : Overrides
 nothing_set = record { max_size = None; min_idle = None; check = None; test_after = None; lifetime = None; idle = None; timeout = None; reaper = None; retry = None; strategy = None }
 
--- what is not set has its default
+-- the settings, with defaults for what is not set
 abbrev pub settings_from : Overrides → Settings
 settings_from o = record {
   max_size = unwrap_or o.max_size default_settings.max_size;
@@ -67,15 +67,15 @@ settings_from o = record {
   queue_strategy = unwrap_or o.strategy default_settings.queue_strategy;
 }
 
--- the settings, where a pool can hold to them
+-- the settings, if a pool accepts them
 abbrev pub if_lawful : Settings → Option Settings
 if_lawful s = if is_lawful s then Some s else None
 
--- the configuration that the fields are: the word `config` and settings
+-- the configuration of these fields: the word `config`, and settings
 unfoldable pub settings_of_fields : List (List ℕ) → Option Settings
 settings_of_fields [] = None
 settings_of_fields (word ∷ fields) = if bytes_eq word (codes "config") then (overrides_from nothing_set fields >>= λ o. if_lawful (settings_from o)) else None
 
--- the configuration that the line is
+-- the configuration of a line
 abbrev pub settings_of_line : List ℕ → Option Settings
 settings_of_line line = settings_of_fields (fields_of line)

@@ -1,4 +1,5 @@
--- How events and configurations are spelled: each line is one of these, and no other line is good.
+-- The spelling of events and configurations: each line is one of these, and no other line is
+-- accepted.
 use Rattle.std.specs.Prelude.{◌≡◌, ◌≢◌, ℕ, ◌^◌, ◌<◌, List, [], ◌∷◌, ◌++◌, map, ⊤, Bool, true, false, Option, Some, None, codes, decimal}
 use Rattle.bb8_runner.specs.Words.{join_with_byte, Act, Begin, Try, CheckedOk, CheckedErr, GiveUp, PutBack, Detach, Fill, Ask, Claim, Opened, Failed, Add, Reap, Retire, State, Join, Leave, Close, Look, TimedOut, Cancelled, Event, QueueStrategy, Fifo, Lifo, Settings, default_settings, is_lawful}
 
@@ -26,12 +27,12 @@ verb_of Leave = codes "leave"
 verb_of Close = codes "close"
 verb_of Look = codes "look"
 
--- the word, where it is wanted
+-- the word if it is set
 abbrev pub flag : List ℕ → Bool → List (List ℕ)
 flag word true = word ∷ []
 flag word false = []
 
--- what stands after the verb
+-- the arguments after the verb
 abbrev pub args_of : Act → List (List ℕ)
 args_of (Try g) = decimal g ∷ []
 args_of (CheckedOk g) = decimal g ∷ []
@@ -45,7 +46,7 @@ args_of (Failed a) = decimal a ∷ []
 args_of (Add b) = flag (codes "broken") b
 args_of _ = []
 
--- the number that the act names is a u64
+-- whether the number in an act is a u64
 abbrev pub FitsAct : Act → Type 0
 FitsAct (Try g) = g < 2 ^ 64
 FitsAct (CheckedOk g) = g < 2 ^ 64
@@ -57,7 +58,7 @@ FitsAct (Opened a) = a < 2 ^ 64
 FitsAct (Failed a) = a < 2 ^ 64
 FitsAct _ = ⊤
 
--- the moment and the number that the act names are u64
+-- whether the moment and the number in an event are u64
 pub record FitsEvent (e : Event) : Type 0 where
   pub moment : e.at.0 < 2 ^ 64
   pub act : FitsAct e.act
@@ -66,12 +67,12 @@ pub record FitsEvent (e : Event) : Type 0 where
 abbrev pub event_fields : Event → List (List ℕ)
 event_fields e = decimal e.at.0 ∷ verb_of e.act ∷ args_of e.act
 
--- the fields spell the event
+-- whether the fields spell the event
 pub record SpellsEvent (fields : List (List ℕ)) (e : Event) : Type 0 where
   pub fits : FitsEvent e
   pub spelled : fields ≡ event_fields e
 
--- the line of an event: its fields, with one space between them
+-- the line of an event: its fields, separated by single spaces
 abbrev pub event_line : Event → List ℕ
 event_line e = join_with_byte 32 (event_fields e)
 
@@ -88,7 +89,7 @@ pub data Setting : Type 0 where
   Retry : Bool → Setting
   Strategy : QueueStrategy → Setting
 
--- what stands before the `=`
+-- the name before the `=`
 abbrev pub name_of : Setting → List ℕ
 name_of (MaxSize n) = codes "max_size"
 name_of (MinIdle n) = codes "min_idle"
@@ -116,7 +117,7 @@ abbrev pub strategy_text : QueueStrategy → List ℕ
 strategy_text Fifo = codes "fifo"
 strategy_text Lifo = codes "lifo"
 
--- what stands after the `=`
+-- the value after the `=`
 abbrev pub value_of : Setting → List ℕ
 value_of (MaxSize n) = decimal n
 value_of (MinIdle n) = limit_text n
@@ -133,12 +134,12 @@ value_of (Strategy s) = strategy_text s
 abbrev pub setting_field : Setting → List ℕ
 setting_field x = name_of x ++ 61 ∷ value_of x
 
--- the number that is set, if one is, is below 2 ^ k
+-- whether a limit, if it is set, is below 2 ^ k
 abbrev pub FitsLimit : ℕ → Option ℕ → Type 0
 FitsLimit k (Some n) = n < 2 ^ k
 FitsLimit k None = ⊤
 
--- the number that the setting names is in the range of its type
+-- whether the number in a setting is in the range of its type
 abbrev pub FitsSetting : Setting → Type 0
 FitsSetting (MaxSize n) = n < 2 ^ 32
 FitsSetting (MinIdle n) = FitsLimit 32 n
@@ -149,22 +150,22 @@ FitsSetting (Timeout n) = n < 2 ^ 64
 FitsSetting (Reaper n) = n < 2 ^ 64
 FitsSetting _ = ⊤
 
--- every number that is named is in the range of its type
+-- whether each number in these settings is in the range of its type
 abbrev pub AllFit : List Setting → Type 0
 AllFit [] = ⊤
 AllFit (x ∷ xs) = FitsSetting x × AllFit xs
 
--- no setting of the list has the name
+-- whether no setting of the list has the name
 abbrev pub LacksName : List ℕ → List Setting → Type 0
 LacksName name [] = ⊤
 LacksName name (x ∷ xs) = (name ≢ name_of x) × LacksName name xs
 
--- no two settings have one name
+-- whether no two settings have the same name
 abbrev pub AreDistinct : List Setting → Type 0
 AreDistinct [] = ⊤
 AreDistinct (x ∷ xs) = LacksName (name_of x) xs × AreDistinct xs
 
--- what a pool holds to, with one setting made
+-- a configuration with one setting changed
 abbrev pub made : Settings → Setting → Settings
 made s (MaxSize n) = record s { max_size = n }
 made s (MinIdle n) = record s { min_idle = n }
@@ -177,13 +178,13 @@ made s (Reaper n) = record s { reaper_rate = n }
 made s (Retry b) = record s { retry_connection = b }
 made s (Strategy q) = record s { queue_strategy = q }
 
--- what a pool holds to, with all these settings made
+-- a configuration with these settings changed
 abbrev pub all_made : Settings → List Setting → Settings
 all_made s [] = s
 all_made s (x ∷ xs) = all_made (made s x) xs
 
 -- The fields spell the configuration: the word `config`, and settings of different names in any
--- order. What is not set has its default, and a pool can hold to the whole.
+-- order. What is not set has its default, and a pool accepts the whole.
 pub record SpellsSettings (fields : List (List ℕ)) (s : Settings) : Type 0 where
   pub chosen : List Setting
   pub fit : AllFit chosen

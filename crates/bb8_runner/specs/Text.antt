@@ -1,38 +1,38 @@
--- The bytes that a script's answers print as.
+-- The output bytes of a script.
 use Rattle.std.specs.Prelude.{ℕ, ◌/◌, ◌==◌, List, [], ◌∷◌, ◌++◌, true, false, Option, Some, None, codes, decimal, if◌then◌else◌, flat_map}
 use Rattle.bb8_runner.specs.Words.{Counts, Figures, figures_of, Answer}
 use Rattle.bb8_core.specs.declared.replay.events.Answer.TheVariants.{Begun, Memory, Exhausted, Served, Taken, Waiting, Kept, Closed, GaveUp, Granted, Claimed, Ended, Entered, Late, GivenBack, Added, Broken, NoCapacity, Withheld, Reaped, Shown, Joined, Left, Looked, Unfit}
 use Rattle.bb8_types.specs.declared.grants.Grant.{Grant}
 
--- ` grant N at F` where something was granted, and ` withheld W` where something was withheld
+-- ` grant N at F` if approvals were granted, and ` withheld W` if any were withheld
 abbrev pub grant_text : Grant → List ℕ
 grant_text g = (if g.count == 0 then [] else codes " grant " ++ (decimal g.count ++ (codes " at " ++ decimal g.first)))
     ++ (if g.withheld == 0 then [] else codes " withheld " ++ decimal g.withheld)
 
--- ` notifies G` where a get was notified
+-- ` notifies G` if a get was notified
 abbrev pub notifies_text : Option ℕ → List ℕ
 notifies_text None = []
 notifies_text (Some g) = codes " notifies " ++ decimal g
 
--- how many connections there are, and how many of them are idle
+-- the counts of connections and of idle ones
 abbrev pub sizes_text : Figures → List ℕ
 sizes_text f = codes "state connections " ++ (decimal f.connections ++ (codes " idle " ++ decimal f.idle))
 
--- what became of gets
+-- the counts of gets
 abbrev pub gets_text : Counts → List ℕ
 gets_text c = codes " started " ++ (decimal c.started ++ (codes " direct " ++ (decimal c.direct ++ (codes " waited " ++ (decimal c.waited
     ++ (codes " timed_out " ++ (decimal c.timed_out ++ (codes " cancelled " ++ decimal c.cancelled))))))))
 
--- the wait time in whole microseconds, and how many connections were opened
+-- the wait time in whole microseconds, and the count of opened connections
 abbrev pub opened_text : Counts → List ℕ
 opened_text c = codes " wait_us " ++ (decimal (c.wait_time / 1_000) ++ (codes " created " ++ decimal c.created))
 
--- why connections were closed
+-- the counts of closed connections, by reason
 abbrev pub closed_text : Counts → List ℕ
 closed_text c = codes " broken " ++ (decimal c.broken ++ (codes " invalid " ++ (decimal c.invalid ++ (codes " lifetime " ++ (decimal c.max_lifetime
     ++ (codes " idle_timeout " ++ decimal c.idle_timeout))))))
 
--- ` retired N` where a retired one was closed, and ` detached N` where one left the pool
+-- ` retired N` if retired ones were closed, and ` detached N` if any were detached
 abbrev pub gone_text : Counts → List ℕ
 gone_text c = (if c.retired == 0 then [] else codes " retired " ++ decimal c.retired)
     ++ (if c.detached == 0 then [] else codes " detached " ++ decimal c.detached)
@@ -41,7 +41,7 @@ gone_text c = (if c.retired == 0 then [] else codes " retired " ++ decimal c.ret
 abbrev pub state_text : Figures → List ℕ
 state_text f = sizes_text f ++ (gets_text f.counts ++ (opened_text f.counts ++ (closed_text f.counts ++ gone_text f.counts)))
 
--- an answer without its line feed
+-- a result without its line feed
 abbrev pub answer_text : Answer → List ℕ
 answer_text (Begun g) = codes "begun " ++ decimal g
 answer_text Memory = codes "memory"
@@ -72,14 +72,14 @@ answer_text (Looked m true) = codes "looked " ++ (decimal m.0 ++ codes " open")
 answer_text (Looked m false) = codes "looked " ++ (decimal m.0 ++ codes " closed")
 answer_text Unfit = codes "unfit"
 
--- a text and its line feed
+-- a text with its line feed
 abbrev pub line : List ℕ → List ℕ
 line text = text ++ 10 ∷ []
 
--- what a script that ran prints: a line for each answer, and the last state
+-- the output of a script that ran: a line for each result, and the final state
 abbrev pub output_of : List Answer → Figures → List ℕ
 output_of answers last = flat_map (λ a. line (answer_text a)) answers ++ line (state_text last)
 
--- what is told of line n, the first bad one
+-- the message about line n, the first bad one
 abbrev pub bad_line_text : ℕ → List ℕ
 bad_line_text n = codes "line " ++ (decimal n ++ (if n == 1 then line (codes ": not a configuration") else line (codes ": not an event")))

@@ -1,4 +1,4 @@
--- What is written for a script that threads ran.
+-- The output of a script that threads ran.
 use Rattle.std.specs.Prelude.{◌≡◌, ℕ, Bool, if◌then◌else◌, List, ◌++◌, length, codes, decimal}
 use Rattle.bb8_runner.specs.Words.{sum_by, Settings, Figures, Ledger, figures, opening_with, IsRun, Event, events_of, answers_of, steps_of, notes_of, Verdict, Ran, Bad}
 use Rattle.std.specs.Bool.{Decides}
@@ -8,13 +8,13 @@ use Rattle.bb8_journal.specs.Audit.{IsAccount}
 use Rattle.bb8_runner.specs.Script.{Spells, IsFirstBad, lines_of}
 use Rattle.bb8_runner.specs.Text.{line, state_text, bad_line_text}
 
--- how many entries there are, what the audit says, and the state line
+-- the count of entries, the result of the audit, and the state line
 abbrev pub dealt_text : ℕ → Bool → Figures → List ℕ
 dealt_text entries audited last = line (codes "entries " ++ decimal entries) ++ (line (if audited then codes "audit yes" else codes "audit no") ++ line (state_text last))
 
--- The text tells of a legal history of the settings, from a pool to which nothing happened, and of
--- the state that it leads to. It has as many entries as the seats made steps, and the audit says
--- yes just where their notes account for it.
+-- The text is about a legal history with these settings, from an empty pool, and about its final
+-- state. There are as many entries as the seats made steps, and the audit says yes exactly if their
+-- notes account for the history.
 pub record IsDealtText (settings : Settings) (text : List ℕ) : Type 0 where
   pub entries : List Entry
   pub notes : List Notes
@@ -25,7 +25,7 @@ pub record IsDealtText (settings : Settings) (text : List ℕ) : Type 0 where
   pub audits : Decides audited (IsAccount entries notes)
   pub told : text ≡ dealt_text (length entries) audited (figures last)
 
--- The text for the input: that of a history of the script's configuration, or the one line on its
+-- The output for an input: that of a history with the script's configuration, or one line about its
 -- first bad line.
 abbrev pub IsThreadsAnswer : List ℕ → Verdict → List ℕ → Type 0
 IsThreadsAnswer input Ran text = (settings : Settings) × (events : List Event) × Spells (lines_of input) settings events × IsDealtText settings text

@@ -1,4 +1,4 @@
--- The words that the definitions speak with.
+-- The names that the definitions use from other modules.
 pub use Rattle.std.specs.Str.{bytes_eq}
 pub use Rattle.bb8_runner.specs.declared.threads.arguments.Mode.TheVariants.{Script, Threads}
 pub use Rattle.std.specs.List.{slice_split, before_first, after_first, position_or_len, join_with_byte, sum_by}

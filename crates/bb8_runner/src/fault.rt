@@ -1,4 +1,4 @@
-//! Why a script was not answered.
+//! The errors of a script run.
 ghost use Rattle.std.specs.Prelude.{◌≡◌, Some};
 ghost use Rattle.bb8_runner.specs.Script.{fault_text};
 ghost use Rattle.bb8_runner.specs.declared.fault.Fault.TheVariants.{Memory};
@@ -7,14 +7,14 @@ use bb8_core::api;
 use std::alloc::AllocError;
 use std::fmt;
 
-/// Why nothing, or not all, was written.
+/// Why nothing was written, or not everything.
 #[derive(Clone, Copy, Debug, PartialEq, Eq)]
 pub enum Fault {
     /// A read failed.
     Read,
-    /// A write failed. A beginning of the output may have gone out.
+    /// A write failed. The beginning of the output may have been written.
     Write,
-    /// Memory was refused for the lists.
+    /// Memory for the lists was refused.
     Memory,
 }
 

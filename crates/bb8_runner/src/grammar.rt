@@ -1,4 +1,4 @@
-//! What the lines of a script are read as.
+//! The grammar of a script's lines.
 ghost use Rattle.std.specs.Prelude.{◌≡◌, map, IfOk, List, ℕ};
 ghost use Rattle.bb8_runner.specs.Grammar.{number_of, plain_act, worded_act, numbered_act, broken_act, flagged_act, act_of, event_of_fields, event_of, fields_of};
 
@@ -7,8 +7,8 @@ use bb8_core::replay::{Act, Event, Reason};
 use std::alloc::{AllocError, Global};
 use std::str;
 
-/// The number that a field is: decimal digits with no sign and no leading zero, at most
-/// 18,446,744,073,709,551,615. None where it is no such number.
+/// Parses a number: decimal digits without sign or leading zero, at most
+/// 18,446,744,073,709,551,615. Returns None for any other field.
 pub fn number(field: &str) -> Option<u64>
     ensures { result ≡ number_of 64 field.now }
 {
@@ -31,7 +31,7 @@ pub fn small_number(field: &str) -> Option<u32>
     u32::try_from(number(field)?).ok()
 }
 
-/// The verbs with no argument.
+/// Parses the verbs without argument.
 fn plain_act(verb: &str) -> Option<Act>
     ensures { result ≡ plain_act verb.now }
 {
@@ -52,7 +52,7 @@ fn plain_act(verb: &str) -> Option<Act>
     }
 }
 
-/// The verbs with a word after them.
+/// Parses the verbs with a word after them.
 fn worded_act(verb: &str, word: &str) -> Option<Act>
     ensures { result ≡ worded_act verb.now word.now }
 {
@@ -63,7 +63,7 @@ fn worded_act(verb: &str, word: &str) -> Option<Act>
     }
 }
 
-/// The verbs with a number after them.
+/// Parses the verbs with a number after them.
 fn numbered_act(verb: &str, n: u64) -> Option<Act>
     ensures { result ≡ numbered_act verb.now n }
 {
@@ -81,7 +81,7 @@ fn numbered_act(verb: &str, n: u64) -> Option<Act>
     }
 }
 
-/// The verbs with a number and the word `broken` after them.
+/// Parses the verbs with a number and the word `broken` after them.
 fn broken_act(verb: &str, n: u64) -> Option<Act>
     ensures { result ≡ broken_act verb.now n }
 {
@@ -94,7 +94,7 @@ fn broken_act(verb: &str, n: u64) -> Option<Act>
     }
 }
 
-/// The verbs with a number and a word after them.
+/// Parses the verbs with a number and a word after them.
 fn flagged_act(verb: &str, arg: &str, word: &str) -> Option<Act>
     ensures { result ≡ flagged_act verb.now arg.now word.now }
 {
@@ -131,15 +131,15 @@ fn event_of_fields(fields: &[&str]) -> Option<Event>
     Some(Event { at, act })
 }
 
-/// A line's fields: what stands between its spaces. Err where memory was refused.
+/// Returns the fields of a line, which spaces separate. Fails if memory is refused.
 pub fn fields_of(alloc: Global, line: &str) -> Result<Vec<&str>, AllocError>
     ensures { IfOk result (λ fields. map (λ x. x.now) fields.items ≡ fields_of line.now) }
 {
     line.split(' ').collect(alloc)
 }
 
-/// The event that a line is: a moment, a verb and its arguments. None where it is no event, Err
-/// where memory was refused.
+/// Parses an event: a moment, a verb and its arguments. Returns None for any other line. Fails if
+/// memory is refused.
 pub fn event_of(alloc: Global, line: &[u8]) -> Result<Option<Event>, AllocError>
     ensures { IfOk result (λ event. event ≡ event_of line.now) }
 {

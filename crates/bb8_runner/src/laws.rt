@@ -1,4 +1,4 @@
-//! Laws of the language of scripts, each carried by a function that does nothing.
+//! Laws of the script language, each stated by a function without a body.
 ghost use Rattle.std.specs.Prelude.{◌≡◌, ◌≢◌, Some, List, ℕ, All};
 ghost use Rattle.bb8_runner.specs.Words.{Answer, Event, Figures, Settings};
 ghost use Rattle.bb8_runner.specs.Grammar.{event_of, fields_of};
@@ -22,14 +22,14 @@ pub fn one_configuration()
         → SpellsSettings (fields_of line) s }
 {}
 
-/// An event's own line is read as that event, so no two events that differ have the same line.
+/// The line of an event is parsed as that event, so two different events have different lines.
 pub fn distinct_lines()
     ensures own { (e : Event) → FitsEvent e → event_of (event_line e) ≡ Some e }
     ensures distinct { (e f : Event) → FitsEvent e → FitsEvent f → event_line e ≡ event_line f
         → e ≡ f }
 {}
 
-/// No answer and no state line has a line feed inside, so that each is one line of the output.
+/// No result and no state line contains a line feed, so each is one line of the output.
 pub fn single_lines()
     ensures answers { (a : Answer) → All (λ b. b ≢ 10) (answer_text a) }
     ensures states { (f : Figures) → All (λ b. b ≢ 10) (state_text f) }

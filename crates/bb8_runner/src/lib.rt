@@ -1,4 +1,4 @@
-//! Runs a script of events over a pool: from bytes to bytes, also in threads over one journal.
+//! Runs a script of events on a pool: from bytes to bytes, also in threads over one journal.
 #![tactic(auto)]
 
 pub mod fault;

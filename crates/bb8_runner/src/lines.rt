@@ -12,21 +12,21 @@ use bb8_core::api::Config;
 use bb8_core::replay::Event;
 use std::alloc::{AllocError, AllocFailed, Global};
 
-/// A configuration, and what happens to a pool that holds to it.
+/// A configuration, and the events of a pool with it.
 #[derive(Drop)]
 pub struct Script {
-    /// The configuration, of the first line.
+    /// The configuration, from the first line.
     pub config: Config,
-    /// The events, of the other lines.
+    /// The events, from the other lines.
     pub events: Vec<Event>,
 }
 
-/// Why there is no script.
+/// Why the input is not a script.
 #[derive(Clone, Copy)]
 pub enum NoScript {
     /// Memory was refused.
     Memory,
-    /// The first bad line, counted from 1.
+    /// The number of the first bad line, counted from 1.
     BadLine(u64),
 }
 
@@ -46,7 +46,7 @@ impl<T: Drop> From<AllocFailed<T>> for NoScript {
     }
 }
 
-/// The input but for a last line feed.
+/// Returns the input without its last line feed.
 fn without_line_feed(input: &[u8]) -> &[u8]
     ensures { result.now ≡ without_line_feed input.now }
 {
@@ -65,9 +65,9 @@ fn pieces_of(alloc: Global, input: &[u8]) -> Result<Vec<&[u8]>, AllocError>
     input.split(|b| *b == b'\n').collect(alloc)
 }
 
-/// The lines of an input. A line feed ends a line, and the last line may lack it. No input is one
-/// empty line. The cut is made on bytes, so that bytes that are no text make only their own line
-/// bad. Err where memory was refused.
+/// Returns the lines of an input. A line feed ends each line, and may be missing after the last
+/// one. An empty input is one empty line. The input is split as bytes, so bytes that are not text
+/// make only their own line bad. Fails if memory is refused.
 pub fn lines_of(alloc: Global, input: &[u8]) -> Result<Vec<&[u8]>, AllocError>
     ensures { IfOk result (λ lines. map (λ x. x.now) lines.items ≡ lines_of input.now) }
 {
@@ -91,8 +91,8 @@ fn events_of(alloc: Global, lines: &[&[u8]]) -> Result<Vec<Event>, NoScript>
     Ok(events)
 }
 
-/// The script that the lines are: a configuration, which a pool can hold to, and an event a line.
-/// Err where memory was refused, or with the first bad line.
+/// Parses a script: a valid configuration, and one event per line. Fails if memory is refused, or
+/// with the first bad line.
 pub fn script_of(alloc: Global, lines: &[&[u8]]) -> Result<Script, NoScript>
     ensures lawful { IfOk result (λ s. is_lawful (settings_of s.config) ≡ true) }
     ensures read { IfOk result (λ s. Spells (map (λ x. x.now) lines.now)

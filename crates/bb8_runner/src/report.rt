@@ -1,4 +1,4 @@
-//! What comes of transcripts that are run.
+//! The report on transcripts that were run.
 
 use crate::fault::Fault;
 use crate::streams::{Sink, Source};
@@ -6,19 +6,19 @@ use crate::transcripts::{Transcript, transcripts_of};
 use std::alloc::Global;
 use std::{fmt, str};
 
-/// What answers scripts.
+/// A program that runs scripts.
 pub trait Answers {
-    /// What is written for a script, line by line.
+    /// Returns the output of a script, line by line.
     fn answers(&self, alloc: Global, script: &str) -> Result<Vec<u8>, Fault>;
 }
 
-/// The exit status where a transcript is answered otherwise.
+/// The exit status if a transcript has other results than expected.
 const DIFFERENT: u8 = 1;
 
-/// The exit status where reading, writing or memory failed, or the input is no text.
+/// The exit status if reading, writing or memory failed, or the input is not text.
 const FAULT: u8 = 3;
 
-/// An answer, or that there is none.
+/// An expected or a found line, or none.
 #[derive(Clone, Copy)]
 struct Said<'a>(Option<&'a str>);
 
@@ -31,23 +31,23 @@ impl fmt::Display for Said<'_> {
     }
 }
 
-/// What came of transcripts.
+/// The outcome of transcripts.
 #[derive(Drop)]
 pub struct Report {
-    /// A line for each transcript that is answered otherwise.
+    /// One line for each transcript with other results than expected.
     pub told: String,
     /// How many were run.
     pub transcripts: u64,
-    /// How many answers they want.
+    /// How many results they expect.
     pub answers: u64,
     /// How many were not run.
     pub not_run: u64,
-    /// How many of those that were run are answered otherwise.
+    /// How many of those run have other results than expected.
     pub different: u64,
 }
 
 impl Report {
-    /// Of no transcript yet.
+    /// Returns the report on no transcripts.
     pub fn new(alloc: Global) -> Report {
         Report {
             told: String::new(alloc),
@@ -58,12 +58,12 @@ impl Report {
         }
     }
 
-    /// One more transcript is not run.
+    /// Counts a transcript that is not run.
     pub fn pass(&mut self) {
         self.not_run = self.not_run.saturating_add(1);
     }
 
-    /// One more transcript was run, and this was written for its script.
+    /// Counts a transcript that was run, and compares the output of its script.
     pub fn add(&mut self, transcript: &Transcript<'_>, written: &[u8]) -> Result<(), Fault> {
         let Ok(written) = str::from_utf8(written) else {
             return Err(Fault::Read);
@@ -73,7 +73,7 @@ impl Report {
         self.compare(transcript, written)
     }
 
-    /// Writes what is told, and the sums.
+    /// Writes the differences and the totals.
     pub fn write<W: Sink>(&self, alloc: Global, writer: &mut W) -> Result<(), Fault> {
         writer.write_whole(self.told.as_bytes())?;
         let sums = format!(in alloc; "{self}\n")?;
@@ -81,7 +81,7 @@ impl Report {
         Ok(())
     }
 
-    /// Tells the first line that was written for a script and is not the wanted one.
+    /// Reports the first output line that is not the expected one.
     fn compare(&mut self, transcript: &Transcript<'_>, written: &str) -> Result<(), Fault> {
         let title = transcript.title;
         let mut lines = written.split_terminator('\n');
@@ -129,7 +129,7 @@ impl fmt::Display for Report {
     }
 }
 
-/// Reads all transcripts, runs them, and writes what came of them.
+/// Reads all transcripts, runs them, and writes the report.
 pub fn run<A: Answers, R: Source, W: Sink>(
     alloc: Global,
     player: &A,
@@ -153,7 +153,7 @@ pub fn run<A: Answers, R: Source, W: Sink>(
     Ok(report)
 }
 
-/// The exit status of what came of transcripts.
+/// Returns the exit status for a report.
 pub fn status_of(came: &Result<Report, Fault>) -> u8 {
     match came {
         Ok(report) if report.different == 0 => 0,

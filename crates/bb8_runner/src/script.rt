@@ -1,4 +1,4 @@
-//! A script from bytes to bytes.
+//! A script run from bytes to bytes.
 ghost use Rattle.std.specs.Prelude.{◌≡◌, List, ℕ, IfOk, IfSome, IfErr, IsErrOf, string_bytes};
 ghost use Rattle.bb8_runner.specs.Words.{Appends, Verdict};
 ghost use Rattle.bb8_runner.specs.Script.{IsAnswer};
@@ -12,7 +12,7 @@ use bb8_core::api::Moment;
 use bb8_core::replay::replay;
 use std::alloc::Global;
 
-/// What is written for an input.
+/// Returns the output for an input.
 fn answer(alloc: Global, input: &[u8]) -> Result<(Verdict, String), Fault>
     ensures told { IfOk result (λ x. IsAnswer input.now x.0 (string_bytes x.1)) }
     ensures fault { IfErr result (λ e. e ≡ Fault.Memory) }
@@ -30,31 +30,31 @@ fn answer(alloc: Global, input: &[u8]) -> Result<(Verdict, String), Fault>
     }
 }
 
-/// Reads a script to its end, and writes the answers of a run of it and the state that it ended in,
-/// or which line is the first bad one.
+/// Reads a script to its end, runs it, and writes the results and the final state; or the number of
+/// the first bad line.
 ///
-/// `Read` comes where a read failed, `Write` where a write failed, and `Memory` where a list could
-/// not grow. Nothing is written before the whole input was read and judged, so only after `Write`
-/// may a beginning of the output have gone out. Upstream has no scripts.
+/// Fails with `Read` if a read fails, `Write` if a write fails, `Memory` if a list cannot grow.
+/// Nothing is written before the whole input has been read and parsed, so only after `Write` the
+/// beginning of the output may have been written. bb8 has no scripts.
 pub fn run_script<R: Source, W: Sink>(
     alloc: Global,
     reader: &mut R,
     writer: &mut W,
 ) -> Result<Verdict, Fault>
-    // What is written is the answer to what was read.
+    // The output is the answer to the input.
     ensures told { IfOk result (λ verdict. IfSome (R.remaining reader.old) (λ input.
         (text : List ℕ) × IsAnswer input verdict text
         × Appends (W.contents writer.old) (W.contents writer.new) text)) }
-    // `Read` comes where a read failed.
+    // `Read` is returned only if a read failed.
     ensures read_failed { IsErrOf result Fault.Read → R.read_fails reader.old reader.new }
-    // Where a read failed nothing was written.
+    // If a read failed, nothing was written.
     ensures unread { IsErrOf result Fault.Read → writer.new ≡ writer.old }
-    // `Write` comes where writing the answer to what was read failed.
+    // `Write` is returned only if writing the answer to the input failed.
     ensures write_failed { IsErrOf result Fault.Write
         → ((text : List ℕ) × W.write_fails writer.old text writer.new
         × IfSome (R.remaining reader.old)
         (λ input. (verdict : Verdict) × IsAnswer input verdict text)) }
-    // Where memory was refused nothing was written.
+    // If memory was refused, nothing was written.
     ensures unanswered { IsErrOf result Fault.Memory → writer.new ≡ writer.old }
 {
     let input = reader.read_whole(alloc)?;

@@ -51,7 +51,7 @@ fn small_limit_of(value: &str) -> Option<Option<u32>>
     Some(Some(small_number(value)?))
 }
 
-/// The value of a setting that was not yet set.
+/// Returns the value of a setting that was not set before.
 fn once<T: Copy>(old: Option<T>, new: Option<T>) -> Option<Option<T>>
     ensures { result ≡ once old new }
 {
@@ -61,8 +61,8 @@ fn once<T: Copy>(old: Option<T>, new: Option<T>) -> Option<Option<T>>
     }
 }
 
-/// What is set, with one setting more. None where there is no such setting, where it is set
-/// already, or where its value is none of its values.
+/// Adds a setting. Returns None if there is no such setting, it is set already, or its value is not
+/// allowed.
 #[tactic(auto, unfolding(crate::specs::Opening::with_setting))]
 fn with_setting(overrides: Overrides, name: &str, value: &str) -> Option<Overrides>
     ensures { result ≡ with_setting overrides name.now value.now }
@@ -84,7 +84,7 @@ fn with_setting(overrides: Overrides, name: &str, value: &str) -> Option<Overrid
     Some(o)
 }
 
-/// A setting's name and value: what stands before and after its first `=`.
+/// Returns a setting's name and value, which its first `=` separates.
 fn cut(field: &str) -> Option<(&str, &str)>
     ensures { option_map (λ x. (x.0.now, x.1.now)) result ≡ cut field.now }
 {
@@ -113,7 +113,7 @@ fn overrides_of(fields: &[&str]) -> Option<Overrides>
     Some(overrides)
 }
 
-/// A limit in nanoseconds, if there is one.
+/// Returns a limit in nanoseconds as a `Duration`, if there is one.
 fn span_of(limit: Option<u64>) -> Option<Duration>
     ensures { option_map as_nanos result ≡ limit }
 {
@@ -123,7 +123,7 @@ fn span_of(limit: Option<u64>) -> Option<Duration>
     }
 }
 
-/// What is set for a limit, or its default.
+/// Returns the limit that is set, or its default.
 fn limit_or(set: Option<Option<u64>>, default: Option<Duration>) -> Option<Duration>
     ensures { option_map as_nanos result ≡ unwrap_or set (option_map as_nanos default) }
 {
@@ -133,7 +133,7 @@ fn limit_or(set: Option<Option<u64>>, default: Option<Duration>) -> Option<Durat
     }
 }
 
-/// What is set for a span of time, or its default.
+/// Returns the duration that is set, or its default.
 fn span_or(set: Option<u64>, default: Duration) -> Duration
     ensures { as_nanos result ≡ unwrap_or set (as_nanos default) }
 {
@@ -143,7 +143,7 @@ fn span_or(set: Option<u64>, default: Duration) -> Duration
     }
 }
 
-/// What is not set has its default.
+/// Returns the configuration with defaults for what is not set.
 fn config_from(overrides: Overrides) -> Config
     ensures { settings_of result ≡ settings_from overrides }
 {
@@ -178,8 +178,8 @@ fn config_of_fields(fields: &[&str]) -> Option<Config>
     config.is_lawful().then_some(config)
 }
 
-/// The configuration that a line is: the word `config` and settings, each at most once. None where
-/// it is none that a pool can hold to, Err where memory was refused.
+/// Parses a configuration: the word `config`, and settings, each at most once. Returns None if it
+/// is none that a pool accepts. Fails if memory is refused.
 pub fn config_of(alloc: Global, line: &[u8]) -> Result<Option<Config>, AllocError>
     ensures lawful { IfOk result (λ config. IfSome config
         (λ config. is_lawful (settings_of config) ≡ true)) }

@@ -1,8 +1,8 @@
-//! What a script is read from, and what its answers are written to.
+//! The source of a script, and the sink of its output.
 //!
-//! The kit's `Read` and `Write` do not tell of a call that it failed. These two do, by a relation
-//! that each implementer chooses: code that is generic over them can state of an error that it
-//! comes from a call that failed, and a body that makes no call cannot prove that.
+//! With Rattle's own traits an error says nothing about the call that failed (*streams* in
+//! docs/TOOLCHAIN.md). These traits have a relation that each implementer chooses: generic code can
+//! state that an error comes from a failed call, and a body that makes no call cannot prove it.
 ghost use Rattle.std.specs.Prelude.{◌≡◌, ◌≢◌, ℕ, List, Option, ⊤, OnOk, IfOk, IfSome, IfErr, IsErr, IsErrOf};
 ghost use Rattle.std.specs.Io.KnownBytes.{Appends, IsAtEnd};
 
@@ -10,15 +10,16 @@ use crate::fault::Fault;
 use std::alloc::Global;
 use std::io::{ErrorKind, Read, Write};
 
-/// What a script is read from: everything that can be read.
+/// The source of a script: every `Read` is one.
 pub trait Source {
-    // The bytes that are left, where they are known.
+    // The bytes left, if they are known.
     ghost remaining: { Self → Option (List ℕ) };
 
-    // A read failed, and made the first the second.
+    // Relates the states of the source before and after a failed read.
     ghost read_fails: { Self → Self → Type 0 };
 
-    /// All that is left to read. `Read` where a read failed, `Memory` where memory was refused.
+    /// Reads everything that is left. Fails with `Read` if a read fails, `Memory` if memory is
+    /// refused.
     fn read_whole(&mut self, alloc: Global) -> Result<Vec<u8>, Fault>
         ensures bytes { IfOk result (λ input. IfSome (remaining self.old)
             (λ bytes. input.items ≡ bytes)) }
@@ -27,15 +28,15 @@ pub trait Source {
         ensures reads { IfErr result (λ e. e ≢ Fault.Write) };
 }
 
-/// What answers are written to: everything that can be written to.
+/// The sink of output: every `Write` is one.
 pub trait Sink {
-    // The bytes that were written, where they are known.
+    // The bytes written so far, if they are known.
     ghost contents: { Self → Option (List ℕ) };
 
-    // A write of the bytes failed, and made the first the second.
+    // Relates the states of the sink before and after a failed write of these bytes.
     ghost write_fails: { Self → List ℕ → Self → Type 0 };
 
-    /// Writes all the bytes. `Write` where a write failed.
+    /// Writes all the bytes. Fails with `Write` if a write fails.
     fn write_whole(&mut self, bytes: &[u8]) -> Result<(), Fault>
         ensures bytes { OnOk result (Appends (contents self.old) (contents self.new) bytes.now) }
         ensures failed { IsErr result → write_fails self.old bytes.now self.new }

@@ -1,4 +1,4 @@
-//! The lines that a script's answers print as.
+//! The output lines of a script.
 ghost use Rattle.std.specs.Prelude.{◌≡◌, ◌++◌, Some, IfOk, string_bytes};
 ghost use Rattle.bb8_types.specs.Figures.{counts_of, figures_of};
 ghost use Rattle.bb8_runner.specs.Text.{grant_text, notifies_text, sizes_text, gets_text, opened_text, closed_text, gone_text, state_text, answer_text, output_of, bad_line_text};
@@ -10,7 +10,7 @@ use std::alloc::{AllocError, Global};
 use std::fmt;
 use std::fmt::Write;
 
-/// What was granted and what was withheld; nothing is printed of either where it is 0.
+/// The approvals granted and those withheld; neither is printed if it is 0.
 #[derive(Clone, Copy)]
 struct GrantPart(Grant);
 
@@ -33,7 +33,7 @@ impl fmt::Display for GrantPart {
     }
 }
 
-/// Which get was notified, if one was.
+/// The notified get, if there is one.
 #[derive(Clone, Copy)]
 struct NotifiesPart(Option<u64>);
 
@@ -48,7 +48,7 @@ impl fmt::Display for NotifiesPart {
     }
 }
 
-/// How many connections there are.
+/// The counts of connections.
 #[derive(Clone, Copy)]
 struct SizesPart(State);
 
@@ -62,7 +62,7 @@ impl fmt::Display for SizesPart {
     }
 }
 
-/// What became of gets.
+/// The counts of gets.
 #[derive(Clone, Copy)]
 struct GetsPart(Statistics);
 
@@ -85,7 +85,7 @@ impl fmt::Display for GetsPart {
     }
 }
 
-/// How long gets waited, in whole microseconds, and how many connections were opened.
+/// How long gets waited, in whole microseconds, and the count of opened connections.
 #[derive(Clone, Copy)]
 struct OpenedPart(Statistics);
 
@@ -99,7 +99,7 @@ impl fmt::Display for OpenedPart {
     }
 }
 
-/// Why connections were closed.
+/// The counts of closed connections, by reason.
 #[derive(Clone, Copy)]
 struct ClosedPart(Statistics);
 
@@ -118,7 +118,7 @@ impl fmt::Display for ClosedPart {
     }
 }
 
-/// How many connections were retired, and how many left the pool.
+/// The counts of retired and detached connections.
 #[derive(Clone, Copy)]
 struct GonePart(Statistics);
 
@@ -159,7 +159,7 @@ impl fmt::Display for StateText {
     }
 }
 
-/// The line of an answer.
+/// The line of a result.
 #[derive(Clone, Copy)]
 struct AnswerText(Answer);
 
@@ -217,8 +217,8 @@ impl fmt::Display for AnswerText {
     }
 }
 
-/// What a script that ran prints: a line for each answer, and the state line. Err where memory was
-/// refused.
+/// Returns the output of a script that ran: a line for each result, and the state line. Fails if
+/// memory is refused.
 pub fn output(alloc: Global, answers: &[Answer], last: State) -> Result<String, AllocError>
     ensures { IfOk result (λ text. string_bytes text ≡ output_of answers.now (figures_of last)) }
 {
@@ -230,7 +230,7 @@ pub fn output(alloc: Global, answers: &[Answer], last: State) -> Result<String, 
     Ok(text)
 }
 
-/// What is told of the first bad line, whose number counts from 1. Err where memory was refused.
+/// Returns the message about the first bad line, counted from 1. Fails if memory is refused.
 pub fn bad_line(alloc: Global, number: u64) -> Result<String, AllocError>
     ensures { IfOk result (λ text. string_bytes text ≡ bad_line_text number) }
 {

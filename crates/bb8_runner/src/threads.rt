@@ -1,5 +1,5 @@
-//! Runs a script in threads over one journal: from bytes to bytes, and what a program's arguments
-//! ask for.
+//! Runs a script in threads over one journal, from bytes to bytes; and parses the program's
+//! arguments.
 
 pub mod arguments;
 pub mod dealing;

@@ -1,19 +1,19 @@
-//! The transcripts of a file: scripts with the answers that are wanted of them.
+//! The transcripts of a file: scripts with the expected results.
 
 use std::alloc::{AllocError, Global};
 
-/// What a line of the file is.
+/// The kind of a line of the file.
 #[derive(Clone, Copy)]
 enum Line<'a> {
-    /// An empty line, or one that says something to the reader.
+    /// An empty line, or a comment.
     Comment,
-    /// Begins a transcript, which is run or not.
+    /// The title of a transcript, and whether it is run.
     Title(&'a str, bool),
-    /// A line of the script that has no answer of its own.
+    /// A line of the script without a result of its own.
     Script(&'a str),
-    /// A line of the script, and its answer.
+    /// A line of the script, and its result.
     Answered(&'a str, &'a str),
-    /// An answer behind those of the script's lines.
+    /// A result after those of the script's lines.
     Answer(&'a str),
 }
 
@@ -35,18 +35,18 @@ impl<'a> Line<'a> {
     }
 }
 
-/// An answer that is wanted, and the number of its line in the file.
+/// An expected result, and the number of its line in the file.
 #[derive(Clone, Copy)]
 pub struct Wanted<'a> {
     pub line: u64,
     pub text: &'a str,
 }
 
-/// A script, and what is to be written for it.
+/// A script, and its expected output.
 #[derive(Drop)]
 pub struct Transcript<'a> {
     pub title: &'a str,
-    /// Whether the program runs it; it counts those that it does not.
+    /// Whether the program runs it. The others are only counted.
     pub is_run: bool,
     pub script: String,
     pub wanted: Vec<Wanted<'a>>,
@@ -65,7 +65,7 @@ impl<'a> Transcript<'a> {
         }
     }
 
-    /// Takes a line of the file that begins no transcript.
+    /// Adds a line of the file that is not a title.
     fn take(&mut self, number: u64, line: Line<'a>) -> Result<(), AllocError> {
         match line {
             Line::Title(..) | Line::Comment => return Ok(()),
@@ -90,7 +90,7 @@ impl<'a> Transcript<'a> {
     }
 }
 
-/// The transcripts of a file. What stands before the first title is none.
+/// Returns the transcripts of a file. Lines before the first title are ignored.
 pub fn transcripts_of(alloc: Global, text: &str) -> Result<Vec<Transcript<'_>>, AllocError> {
     let mut transcripts = Vec::new(alloc);
     let mut number: u64 = 0;

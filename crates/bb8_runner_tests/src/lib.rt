@@ -1,5 +1,5 @@
-//! Scripts from bytes to bytes, and journals of what threads made: rows that were worked out by
-//! hand, audits that must say no, refused memory.
+//! Tests of scripts from bytes to bytes, and of journals of threads' steps: rows that were worked
+//! out by hand, audits that must fail, refused memory.
 #![tactic(auto)]
 
 #[cfg(test)]

@@ -6,12 +6,12 @@ mod scripts;
 use std::fmt::Debug;
 use std::process::Abort;
 
-/// Ends the test where what was found is not what is wanted, and prints both.
+/// Ends the test if the found value is not the wanted one, and prints both.
 fn assert_equal<T: PartialEq + Debug + Drop>(rt: &impl Abort, found: T, wanted: T) {
     assert_eq!(rt; found, wanted);
 }
 
-/// Three gets are served while two connections are kept idle, and all return.
+/// Three gets are served while two connections are kept idle, and all are returned.
 const FIRST_SCRIPT: &[u8] = b"\
     config max_size=5 min_idle=2 check=off\n\
     0 fill\n\

@@ -1,5 +1,5 @@
-//! Runs a script of events over a pool: reads it from standard input, and writes the answers to
-//! standard output; or runs it in threads, and writes what their journal says.
+//! Runs a script of events over a pool: reads it from standard input and writes the results to
+//! standard output; or runs it in threads, and writes the verdict of their journal.
 #![tactic(auto)]
 
 ghost use Rattle.std.specs.Prelude.{◌≡◌, ◌≤◌, ℕ, IsErr, Ok, Some};
@@ -16,10 +16,10 @@ use std::io::ErrorKind;
 use std::process::ExitCode;
 use std::{env, io};
 
-/// The exit status where the arguments are none that the program takes.
+/// The exit status for arguments that the program does not take.
 const BAD_ARGUMENTS: u8 = 2;
 
-/// The exit status: 0 where the script ran, 2 after a bad line, and 3 where reading, writing or
+/// Returns the exit status: 0 if the script ran, 2 after a bad line, 3 if reading, writing or
 /// memory failed.
 fn status_of(outcome: &Result<Verdict, Fault>) -> u8
     ensures ran { outcome.now ≡ Ok Ran → result ≡ 0 }
@@ -33,8 +33,8 @@ fn status_of(outcome: &Result<Verdict, Fault>) -> u8
     }
 }
 
-/// What the arguments ask for; None where they are none that the program takes, also where one is
-/// no text. `Memory` where memory for them was refused.
+/// Returns the mode that the arguments ask for. None if the program does not take them, or one is
+/// not text; `Memory` if memory for them was refused.
 fn mode_of<R: Env + AllocGlobal>(rt: &R) -> Result<Option<Mode>, Fault>
     ensures threads { (n : ℕ) → result ≡ Ok (Some (Threads n)) → 1 ≤ n }
 {
@@ -50,8 +50,8 @@ fn mode_of<R: Env + AllocGlobal>(rt: &R) -> Result<Option<Mode>, Fault>
     }
 }
 
-/// Ends with the status of the script's outcome, and with a word on standard error where that is a
-/// fault. The arguments are judged before anything is read.
+/// Exits with the status of the script's outcome; a fault is printed to standard error. The
+/// arguments are checked before anything is read.
 fn main(rt: HostRuntime) -> io::Result<ExitCode> {
     let alloc = rt.alloc();
     let outcome = match mode_of(&rt) {

@@ -1,15 +1,15 @@
-//! The connections of the service: SQLite databases, each in memory of its own.
+//! The connections of the service: SQLite databases, each in its own memory.
 use bb8_blocking::BlockingManager;
 use sqlite::{Connection, Error, MemStore, params};
 use std::alloc::Global;
 
-/// A connection to a database that nobody else has.
+/// A connection to a database of its own.
 pub type Database = Connection<MemStore>;
 
-/// What was written, as far as it was counted: by the threads, or in databases.
+/// What was written, as far as it was counted, by the threads or in databases.
 #[derive(Clone, Copy, Default)]
 pub struct Sums {
-    /// Transactions that were committed.
+    /// Committed transactions.
     pub committed: u64,
     /// Transactions that were left open.
     pub left_open: u64,
@@ -20,7 +20,7 @@ pub struct Sums {
 }
 
 impl Sums {
-    /// Both together.
+    /// Returns the sum of both.
     pub fn plus(self, other: Sums) -> Sums {
         Sums {
             committed: self.committed.saturating_add(other.committed),
@@ -31,7 +31,7 @@ impl Sums {
     }
 }
 
-/// Writes a row in a transaction. Where the table refuses the row, the transaction is left open.
+/// Writes a row in a transaction. If the table refuses the row, the transaction stays open.
 pub fn write(database: &mut Database, amount: u32) -> Result<(), Error> {
     database.execute("BEGIN", &[])?;
     database.execute("INSERT INTO visit (amount) VALUES (?1)", params![amount])?;
@@ -39,7 +39,7 @@ pub fn write(database: &mut Database, amount: u32) -> Result<(), Error> {
     Ok(())
 }
 
-/// The rows of a database.
+/// Returns the rows of a database and their sum.
 pub fn held(database: &mut Database) -> Result<Sums, Error> {
     let row = database.query_row("SELECT COUNT(*), COALESCE(SUM(amount), 0) FROM visit", &[])?;
     Ok(Sums {
@@ -52,7 +52,7 @@ pub fn held(database: &mut Database) -> Result<Sums, Error> {
 /// Opens databases in memory.
 #[derive(Drop)]
 pub struct Databases {
-    /// Where they lie.
+    /// Where they are allocated.
     pub alloc: Global,
 }
 
@@ -61,7 +61,7 @@ impl BlockingManager for Databases {
 
     type Error = Error;
 
-    /// Opens a database, with a table that takes rows of a positive amount.
+    /// Opens a database, with a table that takes rows with a positive amount.
     fn connect(&self) -> Result<Database, Error> {
         let mut database = Connection::open_in_memory(self.alloc)?;
         database.execute(
@@ -71,12 +71,12 @@ impl BlockingManager for Databases {
         Ok(database)
     }
 
-    /// A database is valid that answers a query.
+    /// A database is valid if it answers a query.
     fn is_valid(&self, database: &mut Database) -> Result<(), Error> {
         database.query_row("SELECT 1", &[]).map(|_| ())
     }
 
-    /// A database is broken whose transaction was left open.
+    /// A database is broken if its transaction was left open.
     fn has_broken(&self, database: &mut Database) -> bool {
         !database.is_autocommit()
     }

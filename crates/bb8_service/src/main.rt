@@ -1,6 +1,6 @@
-//! A service: threads that write to SQLite databases through one pool. A connection that comes back
-//! with its transaction open is closed, and the pool opens another. Each connection has a database
-//! of its own, in memory: the kit's `sqlite` lets one handle open a file.
+//! A service: threads that write to SQLite databases through one pool. A connection that is
+//! returned with an open transaction is closed, and the pool opens another. Each connection has its
+//! own database in memory, as the toolchain's `sqlite` lets only one handle open a file.
 #![tactic(auto)]
 
 mod databases;
@@ -13,8 +13,7 @@ use bb8_blocking::Blocking;
 use std::io;
 use std::process::ExitCode;
 
-/// Runs the service over its pool, and prints what came of it, which is the same whatever the
-/// schedule.
+/// Runs the service over its pool, and prints the outcome, which does not depend on the schedule.
 fn main(rt: HostRuntime) -> io::Result<ExitCode> {
     let service = SharedDatabases { rt };
     let manager = Blocking(Databases { alloc: rt.alloc() });

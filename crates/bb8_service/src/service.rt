@@ -6,16 +6,17 @@ use bb8::{
 };
 use bb8_blocking::Blocking;
 
-/// How many threads share the pool.
+/// The number of threads that share the pool.
 pub const THREADS: usize = 4;
 
-/// How many connections there are at most: fewer than threads, so that some gets wait.
+/// The `max_size`: fewer than threads, so that some gets wait.
 pub const CONNECTIONS: u32 = 3;
 
-/// How often each thread gets a connection, writes to its database and gives it back.
+/// How often each thread gets a connection, writes to its database and returns it.
 const ROUNDS: u32 = 25;
 
-/// The amounts of the rows go round, from 0 to the last below this. A row of amount 0 is refused.
+/// The amounts of the rows cycle from 0 to the last number below this. A row of amount 0 is
+/// refused.
 const AMOUNTS: u32 = 5;
 
 /// The pool of the service.
@@ -24,25 +25,25 @@ type DatabasePool<R, L> = PlainPool<Blocking<Databases>, R, L>;
 /// Threads that write to the databases of one pool.
 #[derive(Drop)]
 pub struct SharedDatabases<R> {
-    /// What the guards' list allocates by.
+    /// The runtime with which the list of guards allocates.
     pub rt: R,
 }
 
 impl<R: Runtime> Service<Blocking<Databases>, NopErrorSink, NopCustomizer, MachineClock<R>, R>
     for SharedDatabases<R> {
-    /// None where a get was not served, or a database could not be read.
+    /// None if a get was not served, or a database could not be read.
     type Told = Option<Sums>;
 
-    /// The same.
+    /// None in the same cases.
     type Outcome = Option<(Sums, State)>;
 
-    /// Nothing: the pool opens its connections by itself.
+    /// Does nothing: the pool opens its connections by itself.
     fn begin<L: PoolParts>(&self, _pool: &DatabasePool<R, L>) -> Result<(), Option<(Sums, State)>> {
         Ok(())
     }
 
-    /// Writes to some database a number of times, and gives it back before the next. One whose
-    /// transaction is left open is closed then, so what it held is counted before.
+    /// In each round gets a connection, writes to its database, and returns it. A connection that
+    /// is left with an open transaction is closed then, so its rows are counted first.
     fn run<L: PoolParts>(&self, pool: &DatabasePool<R, L>, _thread: usize) -> Option<Sums> {
         let mut sums = Sums::default();
         for round in 0..ROUNDS {
@@ -57,8 +58,8 @@ impl<R: Runtime> Service<Blocking<Databases>, NopErrorSink, NopCustomizer, Machi
         Some(sums)
     }
 
-    /// Takes as many connections as there may be, all at once, and adds what their databases hold
-    /// to what the threads told.
+    /// Checks out all connections at once, and adds what their databases hold to the threads'
+    /// results.
     fn end<L: PoolParts>(
         &self,
         pool: &DatabasePool<R, L>,

@@ -1,11 +1,11 @@
-//! A storm over one pool: threads that get, check, break, cancel, add, clone and drop at random,
-//! with parts that change their answers at every call, while a driver in a thread of its own opens,
-//! fails and reaps.
+//! A storm over one pool: threads get, check, break, cancel, add, clone and drop at random, with
+//! user callbacks whose results change at every call, while a driver in its own thread opens, fails
+//! and reaps.
 //!
-//! `bb8_storm ROUNDS`: three phases, in each of which four threads make so many rounds each. After
-//! a phase, when the threads and the driver have ended, it compares the pool's figures with what
-//! the threads were told and with what the connections themselves counted, and prints a line, which
-//! is the same whatever the schedule. It ends with status 1 where they differ.
+//! `bb8_storm ROUNDS`: three phases, in each of which four threads make this many rounds each.
+//! After a phase, when the threads and the driver have ended, it compares the pool's statistics
+//! with the threads' results and with the connections' own counts, and prints a line, which does
+//! not depend on the schedule. It exits with status 1 if they differ.
 #![tactic(auto)]
 
 ghost use Rattle.std.specs.Prelude.{Some};
@@ -27,7 +27,7 @@ use std::thread::{self, Threads};
 use std::time::Duration;
 use std::{env, io};
 
-/// How many phases there are.
+/// The number of phases.
 const PHASES: u64 = 3;
 
 /// Whether each phase agreed, in order, and whether nothing was left once the pool was dropped.
@@ -54,8 +54,8 @@ impl Gate for Stop {
     }
 }
 
-/// A phase beside a driver: what the threads were told. The driver has ended then, and has not
-/// found the pool without a handle.
+/// Runs a phase beside a driver, and returns the threads' counts. The driver has ended then, and
+/// has not found the pool without a handle.
 fn in_phase<R: Runtime + Threads, L: PoolParts + 'static>(
     rt: R,
     storm: &Storm<'_, R, L>,
@@ -79,7 +79,7 @@ fn in_phase<R: Runtime + Threads, L: PoolParts + 'static>(
     Ok(all)
 }
 
-/// All phases over one pool.
+/// Runs all phases over one pool.
 fn run<R: Runtime + Threads, L: PoolParts + 'static>(
     rt: R,
     blank: Blank,

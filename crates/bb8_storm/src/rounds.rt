@@ -9,13 +9,13 @@ use futures::test::MockTask;
 use std::ops::DerefMut;
 use std::thread;
 
-/// How many connections the pool may have: so few that gets wait, as openings and checks last.
+/// The `max_size`: so small that gets wait, as attempts and checks take time.
 pub const SIZE: u32 = 5;
 
-/// How many threads there are.
+/// The number of threads.
 pub const THREADS: usize = 4;
 
-/// How many polls a get is given at most.
+/// The greatest number of polls of a get.
 const POLLS: u64 = 16;
 
 /// A phase over the pool.
@@ -28,30 +28,30 @@ pub struct Storm<'a, R: Runtime, L: PoolParts> {
     pub rounds: u64,
 }
 
-/// What a round does.
+/// What a thread does in a round.
 trait MakesRounds {
-    /// One round.
+    /// Makes one round.
     fn round(&self, task: &MockTask, source: &RandomSource, told: &mut GetCounts);
 
-    /// A get, which is polled a few times, and dropped or cancelled where it was not answered.
+    /// Makes a get, polls it a few times, and drops or cancels it if it has no result.
     fn get(&self, task: &MockTask, source: &RandomSource, told: &mut GetCounts);
 
-    /// A get with a handle of its own, of a handle that is dropped meanwhile, polled and let go in
-    /// the same way.
+    /// Makes a get with its own handle, by a handle that is dropped meanwhile, and polls and ends
+    /// it as `get` does.
     fn get_owned(&self, task: &MockTask, source: &RandomSource, told: &mut GetCounts);
 
-    /// A get that the thread waits for, with a handle of its own or without.
+    /// Makes a blocking get, with or without its own handle.
     fn wait(&self, source: &RandomSource, told: &mut GetCounts);
 
-    /// A dedicated connection, whose opening is polled a few times and let go in the same way.
+    /// Polls an attempt to open a dedicated connection a few times, and ends it as `get` does.
     fn open_dedicated(&self, task: &MockTask, source: &RandomSource);
 
-    /// Asks for the figures, and compares them with their bounds.
+    /// Asks for the state, and compares it with its bounds.
     fn ask(&self, told: &mut GetCounts);
 }
 
-/// Counts a get that was polled so often and then let go: it began with its first poll, and was
-/// cancelled where it was not answered.
+/// Counts a get that was polled this often and then dropped: it began with its first poll, and was
+/// cancelled if it had no result.
 fn note(told: &mut GetCounts, polls: u64, answered: bool) {
     if polls > 0 {
         told.begun = told.begun.saturating_add(1);
@@ -61,7 +61,7 @@ fn note(told: &mut GetCounts, polls: u64, answered: bool) {
     }
 }
 
-/// Notes a get's answer. A connection that it is served with is held, and given back.
+/// Counts a get's result. A connection that served it is held, and returned.
 fn end<G: DerefMut<Target = Counted> + Drop>(
     harness: &Harness,
     answer: Result<G, RunError<Refused>>,
@@ -80,7 +80,7 @@ fn end<G: DerefMut<Target = Counted> + Drop>(
     }
 }
 
-/// Polls a get so often: whether it was answered.
+/// Polls a get this often, and returns whether it had a result.
 fn is_answered<
     G: DerefMut<Target = Counted> + Drop,
     F: Future<Output = Result<G, RunError<Refused>>>,
@@ -99,7 +99,7 @@ fn is_answered<
     false
 }
 
-/// Cancels a future, or drops it.
+/// Cancels or drops a future.
 fn let_go<F: Cancel + Drop>(future: F, source: &RandomSource) {
     if source.below(2) == 0 {
         future.cancel();
@@ -111,7 +111,7 @@ fn let_go<F: Cancel + Drop>(future: F, source: &RandomSource) {
 impl<R: Runtime, L: PoolParts> Job for &Storm<'_, R, L> {
     type Told = GetCounts;
 
-    /// All rounds of the thread.
+    /// Makes all rounds of the thread.
     fn run(self, thread: usize) -> GetCounts {
         let mut told = GetCounts::new();
         let seed = self

@@ -1,4 +1,4 @@
--- What the counters of a pool mean.
+-- The meaning of a pool's counters.
 use Rattle.std.specs.Prelude.{◌*◌}
 use Rattle.bb8_tables.specs.declared.counters.Counters.{Counters}
 use Rattle.bb8_types.specs.Figures.{Counts}

@@ -1,4 +1,4 @@
--- What the walks of a reap do.
+-- The effect of the walks of a reap.
 use Rattle.std.specs.Prelude.{◌≡◌, ◌⊎◌, ℕ, ◌+◌, ◌≤◌, Bool, true, false, List, [], ◌∷◌, ◌++◌, length, Option, Some, slice_get}
 use Rattle.std.specs.FinMap.{get}
 use Rattle.bb8_types.specs.declared.standing.Standing.{Standing}
@@ -15,7 +15,7 @@ use Rattle.bb8_tables.specs.Views.{RecordsView}
 use Rattle.bb8_tables.specs.Reaps.{after_reaped, after_reap, AreReaped, AreFirst, beyond}
 
 module _ {C : Type 0} where
-  -- one idle connection has ended because it passed a test, and was offered to a list
+  -- whether one idle connection ended because it passed a test, and was offered to a list
   pub record EndsFirst (test : Option (Standing C) → Bool) (old : RecordsView C) (k : ℕ) (new : RecordsView C) (list offered : Buffer (Closed C)) : Type 0 where
     pub is_due : test (get old.places k) ≡ true
     pub state : new ≡ after_reaped k old
@@ -23,8 +23,8 @@ module _ {C : Type 0} where
     pub idle : length new.idle + 1 ≡ length old.idle
     pub listed : offered ≡ offered_all (closed_of (k ∷ []) old.places) list
 
-  -- These idle connections have ended, one after another, each because it passed a test; they were
-  -- offered to a list, and so many are told.
+  -- Whether these idle connections ended, one after another, each because it passed a test; they
+  -- were offered to a list, and `told` is their count.
   pub record Ends (test : Option (Standing C) → Bool) (old : RecordsView C) (ks : List ℕ) (new : RecordsView C) (told : ℕ) (list offered : Buffer (Closed C)) : Type 0 where
     pub each : AreReaped test ks old
     pub state : new ≡ after_reap ks old
@@ -33,19 +33,19 @@ module _ {C : Type 0} where
     pub idle : length new.idle + told ≡ length old.idle
     pub listed : offered ≡ offered_all (closed_of ks old.places) list
 
-  -- Those that are idle too long have ended, from the first in line on, until none was left or as
-  -- many had ended as may.
+  -- Whether those that are idle too long ended, from the front of the queue on, until none was left
+  -- or the most allowed had ended.
   pub record EndsIdle (config : Settings) (now : ℕ) (old : RecordsView C) (ks : List ℕ) (new : RecordsView C) (told : ℕ) (list offered : Buffer (Closed C)) : Type 0 where
     pub first : AreFirst (idles_out config now) ks old
     pub ends : Ends (idles_out config now) old ks new told list offered
     pub few : told ≤ beyond config old
     pub all : (told ≡ beyond config old) ⊎ ((k : ℕ) → idles_out config now (get new.places k) ≡ false)
 
-  -- the place after this one in the order of births
+  -- whether `next` is the index after this one in the order of births
   abbrev pub IsNext : TableView (Slot (Standing C)) → ℕ → Option ℕ → Type 0
   IsNext t place next = (passed rest : List ℕ) → t.births ≡ passed ++ place ∷ rest → next ≡ slice_get rest 0
 
-  -- what was found at a place in the order of births
+  -- the connection met at an index in the order of births
   abbrev pub Passes : Settings → ℕ → TableView (Slot (Standing C)) → ℕ → Age → Type 0
   Passes config now t place Young = (x : Slot (Standing C)) × (slot_at t place ≡ Some x) × (is_expired config.max_lifetime now x.standing.birth ≡ false)
   Passes config now t place (Out next) = (x : Slot (Standing C)) × (slot_at t place ≡ Some x) × (is_idle x.standing.place ≡ false) × IsNext t place next

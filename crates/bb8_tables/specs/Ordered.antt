@@ -1,11 +1,11 @@
--- Places in an order, and the links that keep it.
+-- Ordered lists of indexes, and the links that store them.
 use Rattle.std.specs.Prelude.{◌≤◌, ℕ, List, Option, Some, None, slice_get, refl}
 use Rattle.std.specs.Coded.{Coded, code_by, coded×, coded_ℕ, coded_list}
 use Rattle.bb8_tables.specs.declared.line.Link.{Link}
 use Rattle.bb8_tables.specs.declared.line.Line.TheInside.{Inside}
 use Rattle.bb8_tables.specs.Spelled.{walk, Spells, Joins}
 
--- how many places there are, and those that stand in order
+-- the number of indexes, and the ordered list of some of them
 pub record Ordered : Type 0 where
   pub size : ℕ
   pub places : List ℕ
@@ -13,11 +13,11 @@ pub record Ordered : Type 0 where
 abbrev pub ordered_code : Coded Ordered
 ordered_code = code_by (ℕ × List ℕ) (coded× coded_ℕ (coded_list coded_ℕ)) (λ t. (t.size, t.places)) (λ p. record { size = p.0; places = p.1 }) (λ _. refl)
 
--- the most places: as many as links of 32 bits can tell apart
+-- the most indexes: as many as links of 32 bits can tell apart
 abbrev pub most_places : ℕ
 most_places = 4294967296
 
--- where a link leads; where there is none, to its own place
+-- the target of a link; its own index if there is none
 abbrev pub after_at : ℕ → Option Link → ℕ
 after_at i None = i
 after_at i (Some x) = x.after
@@ -32,11 +32,11 @@ after_of xs i = after_at i (slice_get xs i)
 abbrev pub before_of : List Link → ℕ → ℕ
 before_of xs i = before_at i (slice_get xs i)
 
--- the second comes after the first from now on
+-- whether b follows a from now on
 abbrev pub JoinsAt : List Link → List Link → ℕ → ℕ → Type 0
 JoinsAt old new a b = Joins (after_of old) (before_of old) (after_of new) (before_of new) a b
 
--- the places that the links spell
+-- the list that the links spell
 abbrev pub spelled : Inside → List ℕ
 spelled a = walk (after_of a.links.entries.items) a.len (after_of a.links.entries.items 0)
 

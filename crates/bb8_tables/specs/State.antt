@@ -1,4 +1,4 @@
--- What the fields of the tables mean, and what holds of them.
+-- The meaning of the fields of the tables, and their invariants.
 use Rattle.std.specs.Prelude.{◌≡◌, ℕ, ◌+◌, ◌≤◌, List, map, Option, Some, None, is_some, Bool, false}
 use Rattle.bb8_types.specs.declared.standing.Place.{Place}
 use Rattle.bb8_tables.specs.declared.keys.Key.{Key}
@@ -13,14 +13,14 @@ use Rattle.bb8_tables.specs.Views.{RecordsView, GetsView}
 use Rattle.bb8_tables.specs.Slots.{values_at, IsLine, IsTable, ArePlaces, IsOrder, numbers_at}
 use Rattle.bb8_types.specs.Bounds.{most_records}
 
--- how many records there are, and for how many there is room
+-- the counts of records, and the room for them
 pub record AreSized (free unclaimed_room conns approved peak : ℕ) : Type 0 where
   pub peak_holds : conns + approved ≤ peak
   pub peak_few : peak ≤ most_records
   pub room_holds : peak ≤ conns + approved + free
   pub unclaimed_room_holds : peak ≤ unclaimed_room
 
--- how many gets there are, and for how many there is room
+-- the counts of gets, and the room for them
 pub record AreGetsSized (places free alive peak next : ℕ) : Type 0 where
   pub places_are : places ≡ alive
   pub peak_holds : alive ≤ peak
@@ -28,7 +28,7 @@ pub record AreGetsSized (places free alive peak next : ℕ) : Type 0 where
   pub room_holds : peak ≤ alive + free
 
 module _ {C : Type 0} where
-  -- what the fields of the records show
+  -- the view of the records' fields
   abbrev pub view_of_records : RecordsInside C → RecordsView C
   view_of_records a = record {
     next = a.next;
@@ -40,20 +40,21 @@ module _ {C : Type 0} where
     peak = a.peak;
   }
 
-  -- the keys of places that pass a test
+  -- whether the keys are those of records that pass a test
   abbrev pub IsLineOf : (Place C → Bool) → List (Option (Slot (Standing C))) → List Key → Type 0
   IsLineOf test = IsLine (λ (x : Slot (Standing C)). x.number) (λ x. test x.standing.place) (λ (k : Key). k.number) (λ k. k.place)
 
-  -- all the places where a record stands that passes a test, in the order of a moment
+  -- whether these are the indexes of all records that pass a test, ordered by a moment
   abbrev pub IsOrderOf : (Place C → Bool) → (Standing C → ℕ) → List (Option (Slot (Standing C))) → List ℕ → Type 0
   IsOrderOf test moment = IsOrder (λ (x : Slot (Standing C)). test x.standing.place) (λ x. moment x.standing)
 
-  -- whether a record stands there in a place that passes a test
+  -- whether an entry has a record that passes a test
   abbrev pub passes : (Place C → Bool) → Option (Slot (Standing C)) → Bool
   passes test None = false
   passes test (Some x) = test x.standing.place
 
-  -- the table holds what is numbered, the lines lead to it, and the counts agree
+  -- the invariant: numbers are distinct and given, the orders and the queue are complete, and the
+  -- counters agree
   pub record AreGoodRecords (a : RecordsInside C) : Type 0 where
     pub table : IsTable (λ (x : Slot (Standing C)). x.number) a.slots.slots a.next
     pub idle : IsOrderOf is_idle (λ s. s.entered) a.slots.slots a.slots.line
@@ -63,7 +64,7 @@ module _ {C : Type 0} where
     pub approved_are : tally (passes is_approval) a.slots.slots ≡ a.approved
     pub sizes : AreSized a.slots.free a.unclaimed.capacity a.conns a.approved a.peak
 
--- what the fields of the gets show
+-- the view of the gets' fields
 abbrev pub view_of_gets : GetsInside → GetsView
 view_of_gets a = record {
   next = a.next;
@@ -73,11 +74,11 @@ view_of_gets a = record {
   peak = a.peak;
 }
 
--- the places of gets that wait and were not notified
+-- whether these are indexes of gets that wait and were not notified
 abbrev pub AreWaitingPlaces : List (Option (Slot Getting)) → List ℕ → Type 0
 AreWaitingPlaces = ArePlaces (λ (x : Slot Getting). is_unnotified x.standing.place)
 
--- the table holds what is numbered, the line leads to it, and the counts agree
+-- the invariant: numbers are distinct and given, the queue leads to waiters, and the counters agree
 pub record AreGoodGets (a : GetsInside) : Type 0 where
   pub table : IsTable (λ (x : Slot Getting). x.number) a.slots.slots a.next
   pub waiting : AreWaitingPlaces a.slots.slots a.slots.line

@@ -1,8 +1,8 @@
--- What a contract sees of a table: what stands at each place, and the orders of some of the places.
+-- The view of a table in contracts: its entries, and the orders of some of them.
 use Rattle.std.specs.Prelude.{ℕ, List, Option, None, get_or, refl}
 use Rattle.std.specs.Coded.{Coded, code_by, coded×, coded_ℕ, coded_list, coded_option}
 
--- The places, with those in line, those of connections by birth, and how many are free.
+-- The entries, the queue, the connections by birth, and the count of free entries.
 pub record TableView (X : Type 0) : Type 0 where
   pub slots : List (Option X)
   pub line : List ℕ
@@ -19,6 +19,6 @@ table_view_code {X} code =
     (λ _. refl)
 
 module _ {X : Type 0} where
-  -- what stands at a place
+  -- the entry at an index, None if it is free
   abbrev pub slot_at : TableView X → ℕ → Option X
   slot_at t place = get_or t.slots place None

@@ -1,4 +1,4 @@
--- What is seen of the records and of the gets.
+-- The views of the records and of the gets.
 use Rattle.std.specs.Prelude.{[], ◌≡◌, ◌≤◌, ℕ, zero, suc, Bool, true, List, Option, Some, None, refl}
 use Rattle.std.specs.FinMap.{empty, FinMap}
 use Rattle.std.specs.Coded.{Coded, code_by, coded×, coded_ℕ, coded_bool, coded_list, coded_option}
@@ -21,7 +21,7 @@ pub record RecordsView (C : Type 0) : Type 0 where
   pub approved : ℕ
   pub peak : ℕ
 
--- The gets that are alive, with their order and their sizes.
+-- The gets that are alive, with their order and sizes.
 pub record GetsView : Type 0 where
   pub next : ℕ
   pub places : FinMap nat_cmp Getting
@@ -29,19 +29,19 @@ pub record GetsView : Type 0 where
   pub alive : ℕ
   pub peak : ℕ
 
--- no record yet: the next number is given
+-- no records; the first number is given
 abbrev pub no_records : {C : Type 0} → ℕ → RecordsView C
 no_records first = record { next = first; places = empty; idle = []; unclaimed = []; conns = 0; approved = 0; peak = 0 }
 
--- no get yet: the next number is given
+-- no gets; the first number is given
 abbrev pub no_gets : ℕ → GetsView
 no_gets first = record { next = first; places = empty; waiting = []; alive = 0; peak = 0 }
 
--- no birth and no entry lies after a moment
+-- whether no birth and no entry is later than a moment
 abbrev pub NoneAfter : {C : Type 0} → ℕ → RecordsView C → Type 0
 NoneAfter {C} now s = (k : ℕ) (r : Standing C) → map.get s.places k ≡ Some r → (r.birth ≤ now) × (r.entered ≤ now)
 
--- ---- codes
+-- ---- encodings
 
 abbrev place_code : {C : Type 0} → Coded C → Coded (Place C)
 place_code {C} c = code_by (ℕ × (Option C × ℕ)) (coded× coded_ℕ (coded× (coded_option c) coded_ℕ)) to back again

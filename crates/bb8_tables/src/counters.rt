@@ -11,38 +11,38 @@ use bb8_types::api::Statistics;
 use bb8_types::reasons::Reason;
 use std::time::Duration;
 
-/// How often each thing happened; the wait time in whole microseconds.
+/// Counts of what happened. The wait time is in whole microseconds.
 #[derive(Clone, Copy)]
 pub struct Counters {
     /// Gets that began.
     pub started: u64,
-    /// Gets that were served without waiting.
+    /// Gets that were served without a wait.
     pub direct: u64,
-    /// Gets that were served after waiting.
+    /// Gets that were served after a wait.
     pub waited: u64,
     /// Gets that timed out.
     pub timed_out: u64,
-    /// Gets that were let go.
+    /// Gets that were cancelled.
     pub cancelled: u64,
-    /// The time that served and timed out gets waited, in microseconds.
+    /// The waits of served and timed out gets, in microseconds.
     pub wait_micros: u64,
-    /// Connections that an approval brought.
+    /// Connections opened for an approval.
     pub created: u64,
-    /// Connections that were closed as broken.
+    /// Connections closed because they were broken.
     pub broken: u64,
-    /// Connections that were closed after a failed check.
+    /// Connections closed because their check failed.
     pub invalid: u64,
-    /// Connections that were closed as they had lived too long.
+    /// Connections closed because of `max_lifetime`.
     pub max_lifetime: u64,
-    /// Connections that were closed as they had been idle too long.
+    /// Connections closed because of `idle_timeout`.
     pub idle_timeout: u64,
     /// Connections that were closed as they had been retired.
     pub retired: u64,
-    /// Connections that left the pool for good.
+    /// Connections that were detached.
     pub detached: u64,
 }
 
-/// The whole microseconds since a get first waited, if it waited.
+/// Returns the whole microseconds since the first wait, 0 if there was none.
 fn micros_since(now: u64, first_wait: Option<u64>) -> u64
     ensures { result ≡ micros_since now first_wait }
 {
@@ -53,7 +53,7 @@ fn micros_since(now: u64, first_wait: Option<u64>) -> u64
 }
 
 impl Counters {
-    /// Nothing happened yet.
+    /// All counts at 0.
     pub const NONE: Self = Counters {
         started: 0,
         direct: 0,
@@ -70,7 +70,7 @@ impl Counters {
         detached: 0,
     };
 
-    /// A get was served that first waited then, if it waited.
+    /// Counts a served get, with the moment of its first wait if it waited.
     pub fn serve(&mut self, first_wait: Option<u64>, now: u64)
         requires direct { self.old.direct < end_of_numbers }
         requires waited { self.old.waited < end_of_numbers }
@@ -94,8 +94,8 @@ impl Counters {
         }
     }
 
-    /// A get was given up that first waited then, if it waited. How long it waited counts only
-    /// where it timed out.
+    /// Counts a get that timed out or was cancelled, with the moment of its first wait if it
+    /// waited. The wait counts only if it timed out.
     pub fn give_up(&mut self, reason: Reason, first_wait: Option<u64>, now: u64)
         requires timed_out { self.old.timed_out < end_of_numbers }
         requires cancelled { self.old.cancelled < end_of_numbers }
@@ -119,8 +119,8 @@ impl Counters {
         }
     }
 
-    /// A connection was closed as it came back: it was broken, or else retired, or else it had
-    /// lived too long, or none of these.
+    /// Counts a connection that was closed when it was returned: as broken, else as retired, else
+    /// as too old. If it is none of these, nothing is counted.
     pub fn close(&mut self, broken: bool, retired: bool, expired: bool)
         requires { self.old.broken + self.old.retired + self.old.max_lifetime < end_of_numbers }
         ensures { self.new ≡ record self.old {
@@ -141,7 +141,7 @@ impl Counters {
         }
     }
 
-    /// Connections were closed that were idle as all were retired.
+    /// Counts idle connections that were closed because all were retired.
     pub fn retire(&mut self, closed: u32)
         requires { self.old.retired + closed ≤ end_of_numbers }
         ensures { self.new ≡ record self.old { retired = self.old.retired + closed } }
@@ -149,7 +149,7 @@ impl Counters {
         self.retired += closed as u64;
     }
 
-    /// A connection left for good.
+    /// Counts a detached connection.
     pub fn detach(&mut self)
         requires { self.old.detached < end_of_numbers }
         ensures { self.new ≡ record self.old { detached = self.old.detached + 1 } }
@@ -157,8 +157,8 @@ impl Counters {
         self.detached += 1;
     }
 
-    /// Connections were closed, so many as they had been idle too long, and so many others as they
-    /// had lived too long.
+    /// Counts connections closed by the reaper: `by_idle` were idle too long, `by_life` others
+    /// lived too long.
     pub fn reap(&mut self, by_idle: u32, by_life: u32)
         requires by_idle { self.old.idle_timeout + by_idle ≤ end_of_numbers }
         requires by_life { self.old.max_lifetime + by_life ≤ end_of_numbers }
@@ -171,7 +171,7 @@ impl Counters {
         self.idle_timeout += by_idle as u64;
     }
 
-    /// The statistics that a user sees.
+    /// Returns the statistics that users see.
     pub fn statistics(&self) -> Statistics
         requires { self.now.direct + self.now.waited + self.now.timed_out + self.now.cancelled ≤
             self.now.started }

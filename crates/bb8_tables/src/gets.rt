@@ -1,4 +1,4 @@
-//! The gets of a pool.
+//! The table of gets.
 ghost use Rattle.std.specs.Prelude.{◌⊎◌, ◌≡◌, ◌+◌, ◌<◌, ◌≤◌, max, min, true, false, IsSome, is_some, ltb, length, slice_get, IfSome, IfNone, OnOk, OnErr, Some, None};
 ghost use Rattle.std.specs.FinMap as map;
 ghost use Rattle.bb8_types.specs.declared.standing.Getting.{Getting};
@@ -18,7 +18,7 @@ use bb8_types::standing::{GetPlace, Getting};
 use std::alloc::{AllocError, Global};
 use std::marker::Model;
 
-/// The table of gets, in whose line are those that wait and were not notified, and its counters.
+/// The table of gets and its counters. Its queue has the waiters that were not notified.
 #[derive(Drop)]
 pub struct Gets {
     next: u64,
@@ -41,7 +41,7 @@ impl Model for Gets {
     ghost invariant = { AreGoodGets };
 }
 
-/// Whether a get waits that was not notified.
+/// Returns whether a get waits and was not notified.
 pub fn is_unnotified(getting: Option<Getting>) -> bool
     ensures { result ≡ places.gets_stand places.is_unnotified getting }
 {
@@ -56,7 +56,7 @@ pub fn is_unnotified(getting: Option<Getting>) -> bool
     }
 }
 
-/// Whether a get waits that was notified.
+/// Returns whether a get waits and was notified.
 pub fn is_notified(getting: Option<Getting>) -> bool
     ensures { result ≡ places.gets_stand places.is_notified getting }
 {
@@ -71,7 +71,7 @@ pub fn is_notified(getting: Option<Getting>) -> bool
     }
 }
 
-/// Whether a get may try.
+/// Returns whether a get may try.
 pub fn is_trying(getting: Option<Getting>) -> bool
     ensures { result ≡ places.gets_stand places.is_trying getting }
 {
@@ -84,7 +84,7 @@ pub fn is_trying(getting: Option<Getting>) -> bool
     }
 }
 
-/// The number of the connection that a get holds, if it holds one.
+/// Returns the number of the connection that a get holds, None if it holds none.
 pub fn held(getting: Option<Getting>) -> Option<u64>
     ensures { result ≡ places.holds getting }
 {
@@ -99,7 +99,7 @@ pub fn held(getting: Option<Getting>) -> Option<u64>
     }
 }
 
-/// When a get first waited, if it waited.
+/// Returns when a get first waited, None if it never did.
 pub fn first_wait(getting: Option<Getting>) -> Option<u64>
     ensures { result ≡ places.first_wait_of getting }
 {
@@ -110,7 +110,7 @@ pub fn first_wait(getting: Option<Getting>) -> Option<u64>
 }
 
 impl Gets {
-    /// No gets, which take no memory.
+    /// Returns an empty table. It allocates nothing.
     pub fn new(alloc: Global, first: u64) -> Self
         ensures { result ≡ no_gets first }
     {
@@ -123,28 +123,28 @@ impl Gets {
         }
     }
 
-    /// Whether a number is left.
+    /// Returns whether a number is left.
     pub fn has_number(&self) -> bool
         ensures { result ≡ ltb self.now.next end_of_numbers }
     {
         self.next < END_OF_NUMBERS
     }
 
-    /// How many gets are alive.
+    /// Returns the count of gets that are alive.
     pub fn alive(&self) -> u64
         ensures { result ≡ self.now.alive }
     {
         self.alive
     }
 
-    /// How many waiters were not notified.
+    /// Returns the count of waiters that were not notified.
     pub fn unnotified(&self) -> u64
         ensures { result ≡ length self.now.waiting }
     {
         self.slots.len() as u64
     }
 
-    /// Makes room for a higher peak. Waiting needs no memory.
+    /// Allocates for a higher peak. A wait needs no memory beyond this.
     #[cold]
     fn make_room(&mut self) -> Result<(), AllocError>
         requires number { self.old.next < end_of_numbers }
@@ -157,7 +157,7 @@ impl Gets {
         Ok(())
     }
 
-    /// Makes room for one more get, where there is none yet.
+    /// Makes sure that there is room for one more get. Returns false if memory is refused.
     #[inline]
     pub fn make_room_for_one(&mut self) -> bool
         requires { self.old.next < end_of_numbers }
@@ -169,7 +169,7 @@ impl Gets {
         self.alive < self.peak || self.make_room().is_ok()
     }
 
-    /// Begins a get of the next number, for which there is room.
+    /// Adds a get with the next number. There must be room.
     fn bear(&mut self) -> GetKey
         requires room { self.old.alive < self.old.peak }
         requires number { self.old.next < end_of_numbers }
@@ -189,7 +189,7 @@ impl Gets {
         GetKey { number, place }
     }
 
-    /// The number that the next get will have.
+    /// Returns the number of the next get.
     #[inline]
     pub fn next_number(&self) -> u64
         ensures { result ≡ self.now.next }
@@ -197,7 +197,7 @@ impl Gets {
         self.next
     }
 
-    /// Begins a get of the next number that holds this connection at once, for which there is room.
+    /// Adds a get with the next number that holds this connection at once. There must be room.
     #[inline]
     pub fn bear_holding(&mut self, held: u64, lendings: &mut Lendings) -> GetKey
         requires room { self.old.alive < self.old.peak }
@@ -221,8 +221,7 @@ impl Gets {
         GetKey { number, place }
     }
 
-    /// Begins a get of the next number that waits at once, since this moment, for which there is
-    /// room.
+    /// Adds a get with the next number that waits at once, since `now`. There must be room.
     #[inline(always)]
     pub fn bear_waiting(&mut self, now: u64, lendings: &mut Lendings) -> GetKey
         requires room { self.old.alive < self.old.peak }
@@ -247,7 +246,8 @@ impl Gets {
         GetKey { number, place }
     }
 
-    /// Whether a get could begin with no memory: a number is left, and more gets were alive once.
+    /// Returns whether a get can begin without an allocation: a number is left, and more gets were
+    /// alive before.
     pub fn has_room(&self) -> bool
         ensures number { result ≡ true → self.now.next < end_of_numbers }
         ensures room { result ≡ true → self.now.alive < self.now.peak }
@@ -257,7 +257,7 @@ impl Gets {
         self.next < END_OF_NUMBERS && self.alive < self.peak
     }
 
-    /// Gives the next number to a get that begins and ends at once, for which there is room.
+    /// Returns the next number, for a get that begins and ends at once. There must be room.
     pub fn begin_and_end(&mut self) -> u64
         requires room { self.old.alive < self.old.peak }
         requires number { self.old.next < end_of_numbers }
@@ -270,7 +270,8 @@ impl Gets {
         number
     }
 
-    /// Begins a get. Memory is asked for only where as many gets are alive as ever were.
+    /// Begins a get. Returns None if memory is refused. Memory is requested only if as many gets
+    /// are alive as ever were.
     #[inline]
     pub fn begin(&mut self) -> Option<GetKey>
         requires { self.old.next < end_of_numbers }
@@ -284,7 +285,7 @@ impl Gets {
         Some(self.bear())
     }
 
-    /// Has a get wait, which did not wait or was notified, since this moment if it did not wait
+    /// Makes a get wait that is not an unnotified waiter. It waits since `now` if it did not wait
     /// before.
     pub fn wait(&mut self, g: GetKey, now: u64, lendings: &mut Lendings)
         requires stands { (x : Getting) × (map.get self.old.places g.number ≡ Some x)
@@ -302,7 +303,7 @@ impl Gets {
         }
     }
 
-    /// Has a get stand elsewhere that stands in no line: it holds a connection now, or is active
+    /// Changes the state of a get that is in no queue: it holds a connection now, or is active
     /// again.
     pub fn turn(&mut self, g: GetKey, place: GetPlace, lendings: &mut Lendings)
         requires off { places.is_unnotified place ≡ false }
@@ -320,7 +321,7 @@ impl Gets {
         }
     }
 
-    /// Notifies the oldest waiter that was not notified.
+    /// Notifies the longest waiter that was not notified, and returns it.
     #[inline(always)]
     pub fn notify(&mut self, lendings: &mut Lendings) -> Option<GetKey>
         ensures value { notified_of result ≡ slice_get self.old.waiting 0 }
@@ -339,8 +340,8 @@ impl Gets {
         }
     }
 
-    /// Has a get that holds a connection be active again, and tells which it held. Where it holds
-    /// none nothing changes. It looks for it once.
+    /// Makes a get active again that holds a connection, and returns that connection's number.
+    /// Returns None and changes nothing if it holds none. Looks it up once.
     #[inline]
     pub fn let_go(&mut self, g: GetKey, lendings: &mut Lendings) -> Option<u64>
         ensures some { IfSome result (λ k.
@@ -364,8 +365,8 @@ impl Gets {
         }
     }
 
-    /// Ends a get that is alive and holds nothing, and tells how it stood. Where there is none
-    /// nothing changes. It looks for it once.
+    /// Ends a get that is alive and holds nothing, and returns its last state. Returns None and
+    /// changes nothing if there is no such get. Looks it up once.
     #[inline(always)]
     pub fn end(&mut self, g: GetKey, lendings: &mut Lendings) -> Option<Getting>
         ensures some { IfSome result (λ x. (map.get self.old.places g.number ≡ Some x)
@@ -390,8 +391,8 @@ impl Gets {
         }
     }
 
-    /// Ends a get that is alive and in no line.
-    #[inline]
+    /// Ends a get that is alive and in no queue.
+    #[inline(always)]
     pub fn finish(&mut self, g: GetKey, lendings: &mut Lendings)
         requires { (x : Getting) × (map.get self.old.places g.number ≡ Some x)
             × (places.is_unnotified x.place ≡ false) }
@@ -408,8 +409,8 @@ impl Gets {
         }
     }
 
-    /// Ends a get that holds a connection, and tells which, and when it first waited. Where it
-    /// holds none nothing changes. It looks for it once.
+    /// Ends a get that holds a connection. Returns that connection's number and the moment of the
+    /// get's first wait. Returns None and changes nothing if it holds none. Looks it up once.
     #[inline(always)]
     pub fn finish_holding(
         &mut self,
@@ -440,7 +441,7 @@ impl Gets {
         }
     }
 
-    /// Where the number stands, if the get is alive.
+    /// Returns the key of a get, None if it is not alive.
     pub fn find(&self, number: u64, lendings: &mut Lendings) -> Option<GetKey>
         ensures some { IfSome result (λ g. (g.number ≡ number)
             × IsSome (map.get self.now.places number)) }
@@ -453,7 +454,7 @@ impl Gets {
         }
     }
 
-    /// How the get stands, if it is alive.
+    /// Returns the state of a get, None if it is not alive.
     #[inline(always)]
     pub fn getting(&self, g: GetKey, lendings: &mut Lendings) -> Option<Getting>
         ensures value { result ≡ map.get self.now.places g.number }

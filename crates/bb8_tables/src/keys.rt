@@ -1,20 +1,20 @@
-//! Names of connections, approvals and gets.
+//! Keys of connections, approvals and gets.
 
-/// Names a connection or an approval by its number. Where it stands is kept beside the number as a
-/// hint, which may be stale and changes no answer.
+/// The number of a connection or an approval, with a hint of its table index. The hint may be
+/// stale; it changes no result.
 #[derive(Clone, Copy, Debug)]
 pub struct Key {
     /// The number.
     pub number: u64,
-    /// Where it stood when the key was made: a hint.
+    /// The hint: its index when the key was made.
     pub place: usize,
 }
 
-/// Names a get by its number, with a hint as of `Key`.
+/// The number of a get, with a hint as in `Key`.
 #[derive(Clone, Copy, Debug)]
 pub struct GetKey {
     /// The number.
     pub number: u64,
-    /// Where it stood when the key was made: a hint.
+    /// The hint: its index when the key was made.
     pub place: usize,
 }

@@ -1,5 +1,5 @@
-//! Places in an order that links from place to place keep: a place enters at the new end, and
-//! leaves wherever it stands.
+//! A doubly linked list of table indexes. An index is added at the back, and can be removed from
+//! anywhere.
 ghost use Rattle.std.specs.Prelude.{◌≡◌, ◌≢◌, ℕ, List, ◌+◌, ◌-◌, ◌<◌, ◌≤◌, ◌++◌, ◌∷◌, [], length, slice_get, Some, OnOk, OnErr};
 ghost use Rattle.std.specs.Vec.{vec_len};
 ghost use Rattle.bb8_tables.specs.Ordered.{Ordered, most_places, after_of, before_of, JoinsAt};
@@ -9,23 +9,23 @@ ghost use Rattle.bb8_tables.specs.Machine.{without};
 use std::alloc::{AllocError, Global};
 use std::marker::Model;
 
-/// The places before and after a place.
+/// The indexes before and after one.
 #[derive(Clone, Copy)]
 struct Link {
     before: u32,
     after: u32,
 }
 
-/// The place that stands for both ends.
+/// The index that marks both ends.
 const END: u32 = 0;
 
-/// The links of all places.
+/// The links of all indexes.
 #[derive(Drop)]
 struct Links {
     entries: Vec<Link>,
 }
 
-/// Some of the places from 1 on, in an order. A place that is not in it leads to itself.
+/// An ordered list of some of the indexes from 1 on. An index that is not in it links to itself.
 #[derive(Drop)]
 pub struct Line {
     links: Links,
@@ -44,7 +44,7 @@ impl Model for Line {
     ghost invariant = { IsGood };
 }
 
-/// Changes the place after one.
+/// Sets the index that follows `at`.
 #[inline]
 fn set_after(links: &mut [Link], at: u32, to: u32)
     requires { at < length links.old }
@@ -56,7 +56,7 @@ fn set_after(links: &mut [Link], at: u32, to: u32)
     links[at as usize].after = to;
 }
 
-/// Changes the place before one.
+/// Sets the index that precedes `at`.
 #[inline]
 fn set_before(links: &mut [Link], at: u32, to: u32)
     requires { at < length links.old }
@@ -69,7 +69,7 @@ fn set_before(links: &mut [Link], at: u32, to: u32)
 }
 
 impl Links {
-    /// The places before and after one.
+    /// Returns the indexes before and after `at`.
     #[inline]
     fn read(&self, at: u32) -> Link
         requires { at < vec_len self.now.entries }
@@ -79,7 +79,7 @@ impl Links {
         self.entries[at as usize]
     }
 
-    /// Adds a place that leads to itself.
+    /// Adds an index that links to itself.
     fn append(&mut self, place: u32) -> Result<(), AllocError>
         requires { place ≡ vec_len self.old.entries }
         ensures after { (i : ℕ) → after_of self.new.entries.items i
@@ -99,7 +99,7 @@ impl Links {
         }
     }
 
-    /// Lets one place come right after another.
+    /// Links two indexes: `right` follows `left`.
     #[inline]
     fn join(&mut self, left: u32, right: u32)
         requires left { left < vec_len self.old.entries }
@@ -114,7 +114,7 @@ impl Links {
 }
 
 impl Line {
-    /// No place stands in it, and it takes no memory.
+    /// Returns an empty list. It allocates nothing.
     pub fn new(alloc: Global) -> Self
         ensures { result ≡ record { size = 0; places = [] } }
     {
@@ -126,14 +126,14 @@ impl Line {
         }
     }
 
-    /// Takes the memory for so many more places.
+    /// Allocates for this many more indexes.
     pub fn reserve(&mut self, additional: usize) -> Result<(), AllocError>
         ensures { self.new ≡ self.old }
     {
         self.links.entries.reserve(additional)
     }
 
-    /// Adds a place, which does not stand in it.
+    /// Adds one more index, which is not in the list yet.
     pub fn add_place(&mut self) -> Result<(), AllocError>
         ensures ok { OnOk result (self.new ≡ record self.old { size = self.old.size + 1 }) }
         ensures few { OnOk result (self.new.size ≤ most_places) }
@@ -146,7 +146,7 @@ impl Line {
         self.links.append(place as u32)
     }
 
-    /// How many places stand in it.
+    /// Returns the length of the list.
     #[inline]
     pub fn len(&self) -> usize
         ensures { result ≡ length self.now.places }
@@ -154,7 +154,7 @@ impl Line {
         self.len
     }
 
-    /// The place that came in first.
+    /// Returns the index at the front, which was added first.
     #[inline]
     pub fn first(&self) -> Option<usize>
         ensures { result ≡ slice_get self.now.places 0 }
@@ -165,7 +165,7 @@ impl Line {
         Some(self.links.read(END).after as usize)
     }
 
-    /// The place that came in last.
+    /// Returns the index at the back, which was added last.
     #[inline]
     pub fn last(&self) -> Option<usize>
         ensures { result ≡ slice_get self.now.places (length self.now.places - 1) }
@@ -176,7 +176,7 @@ impl Line {
         Some(self.links.read(END).before as usize)
     }
 
-    /// The place after one that stands in it.
+    /// Returns the index after one that is in the list.
     #[inline]
     pub fn next(&self, place: usize) -> Option<usize>
         requires { (j : ℕ) × (slice_get self.now.places j ≡ Some place) }
@@ -190,7 +190,7 @@ impl Line {
         Some(next as usize)
     }
 
-    /// Puts a place at the new end.
+    /// Adds an index at the back.
     #[inline]
     pub fn push(&mut self, place: usize)
         requires within { place < self.old.size }
@@ -204,7 +204,7 @@ impl Line {
         self.len += 1;
     }
 
-    /// Takes a place out that stands in it.
+    /// Removes an index that is in the list.
     #[inline]
     pub fn leave(&mut self, place: usize)
         requires member { (j : ℕ) × (slice_get self.old.places j ≡ Some place) }
@@ -219,7 +219,7 @@ impl Line {
         self.len -= 1;
     }
 
-    /// Takes a place out, wherever it stands in it, if it does.
+    /// Removes an index if it is in the list.
     #[inline]
     pub fn unlink(&mut self, place: usize)
         requires within { place < self.old.size }

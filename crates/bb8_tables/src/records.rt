@@ -1,4 +1,4 @@
-//! The connections and approvals of a pool.
+//! The table of connections and approvals.
 ghost use Rattle.std.specs.Prelude.{◌≡◌, ℕ, true, false, cond, ◌<◌, ◌≤◌, ◌+◌, IsSome, is_some, IfSome, IfNone, IfOk, IfErr, OnOk, OnErr, max, min, Some, None, slice_get, slice_set, length, [], ◌∷◌, ◌++◌, ◌||◌, ltb};
 ghost use Rattle.std.specs.FinMap as map;
 ghost use Rattle.bb8_types.specs.Places as places;
@@ -29,9 +29,9 @@ pub use reaps::Reaped;
 use std::alloc::{AllocError, Global};
 use std::marker::Model;
 
-/// The table of connections and approvals, with the line of unclaimed approvals and its counters.
-/// In the table's line are the idle connections, by their last entry; in its order of births all
-/// connections, idle or out.
+/// The table of connections and approvals, the queue of unclaimed approvals, and counters. The
+/// table's queue has the idle connections in the order in which they became idle; its births have
+/// all connections, idle or checked out, in the order of birth.
 #[derive(Drop)]
 pub struct Records<C> {
     next: u64,
@@ -74,7 +74,7 @@ fn is_guarded<C>(place: &Place<C>) -> bool
     }
 }
 
-/// Whether a connection is out with this holder.
+/// Returns whether a connection is checked out by this holder.
 fn is_with<C>(place: &Place<C>, holder: Holder) -> bool
     ensures { result ≡ holders.is_with holder place.now }
 {
@@ -87,7 +87,7 @@ fn is_with<C>(place: &Place<C>, holder: Holder) -> bool
     }
 }
 
-/// The connection of an idle place.
+/// Returns the connection of an idle record, None for other states.
 fn connection_of<C: Drop>(place: Place<C>) -> Option<C>
     ensures some { IfSome result (λ c. place ≡ Idle c) }
     ensures none { IfNone result (places.is_idle place ≡ false) }
@@ -98,7 +98,7 @@ fn connection_of<C: Drop>(place: Place<C>) -> Option<C>
     }
 }
 
-/// Frees the place of an idle connection, which is offered to a list, and tells its number.
+/// Frees the entry of an idle connection, offers the connection to a list, and returns its number.
 fn close_idle_at<C: Drop>(
     slots: &mut Table<Standing<C>>,
     place: usize,
@@ -123,14 +123,14 @@ fn close_idle_at<C: Drop>(
     number
 }
 
-/// Whether a connection that comes back is closed.
+/// Returns whether a returned connection must be closed.
 fn is_closing(broken: bool, expired: bool, ended: bool) -> bool
     ensures { result ≡ (broken || (expired || ended)) }
 {
     broken || expired || ended
 }
 
-/// Where a connection stands that somebody holds.
+/// Returns the state of a connection with this holder.
 fn place_of<C>(holder: Holder) -> Place<C>
     ensures { result ≡ places.place_with holder }
 {
@@ -140,7 +140,7 @@ fn place_of<C>(holder: Holder) -> Place<C>
     }
 }
 
-/// A new approval, claimed or not.
+/// Returns a new approval, claimed or not.
 fn approval<C>(claimed: bool) -> Standing<C>
     ensures { result ≡ record { place = cond claimed Claimed Unclaimed; birth = 0; entered = 0 } }
 {
@@ -156,7 +156,7 @@ fn approval<C>(claimed: bool) -> Standing<C>
     }
 }
 
-/// Puts a new approval in line, where it is not claimed already.
+/// Adds a new approval to the queue, unless it is claimed already.
 fn push_unclaimed(unclaimed: &mut Ring<Key>, claimed: bool, key: Key)
     requires { length unclaimed.old.items < unclaimed.old.capacity }
     ensures { unclaimed.new ≡ buffer (unclaimed.old.items ++ cond claimed [] (key ∷ []))
@@ -167,7 +167,7 @@ fn push_unclaimed(unclaimed: &mut Ring<Key>, claimed: bool, key: Key)
     }
 }
 
-/// One, where the test passes.
+/// Returns 1 if the test passes, else 0.
 pub fn one(test: bool) -> u64
     ensures value { result ≡ numbered.one test }
     ensures few { result ≤ 1 }
@@ -176,7 +176,8 @@ pub fn one(test: bool) -> u64
 }
 
 impl<C: Drop> Records<C> {
-    /// No records, which take no memory, and the leave to ask.
+    /// Returns an empty table, which allocates nothing, and the permission to read tables without
+    /// counting the access.
     pub fn new(alloc: Global, first: u64) -> (Self, UncountedAccess)
         ensures { result.0 ≡ no_records first }
     {
@@ -192,14 +193,14 @@ impl<C: Drop> Records<C> {
         (records, asking)
     }
 
-    /// A list with no room, which takes no memory.
+    /// Returns a list without room. It allocates nothing.
     pub fn no_list(&self) -> ClosedList<C>
         ensures { result ≡ buffer [] 0 }
     {
         self.unclaimed.another()
     }
 
-    /// Claims the unclaimed approval of the least number.
+    /// Claims the unclaimed approval with the lowest number.
     pub fn claim(&mut self, lendings: &mut Lendings) -> Option<Key>
         ensures some { IfSome result (λ key. (slice_get self.old.unclaimed 0 ≡ Some key.number)
             × (self.new ≡ machine.after_claim key.number self.old)) }
@@ -218,7 +219,7 @@ impl<C: Drop> Records<C> {
         }
     }
 
-    /// When the connection became idle that is first of the idle ones. One entry is lent.
+    /// Returns when the first idle connection became idle. Reads one entry.
     #[inline]
     pub fn first_entered(&self, strategy: QueueStrategy, lendings: &mut Lendings) -> Option<u64>
         ensures some { IfSome result (λ n. (k : ℕ) → places.first_of strategy self.now.idle
@@ -234,7 +235,7 @@ impl<C: Drop> Records<C> {
         }
     }
 
-    /// Takes out the idle connection that is first, for whoever holds it from now on.
+    /// Checks out the first idle connection to this holder.
     #[inline(always)]
     pub fn take(
         &mut self,
@@ -267,7 +268,8 @@ impl<C: Drop> Records<C> {
         }
     }
 
-    /// Has a guard take over a connection that is out, and tells where it stands.
+    /// Changes the holder of a checked-out connection to a guard, and returns its key with a fresh
+    /// hint.
     pub fn hand_over(&mut self, k: Key, lendings: &mut Lendings) -> Key
         requires out { (s : Standing C) × (map.get self.old.places k.number ≡ Some s)
             × (places.is_out s.place ≡ true) }
@@ -288,9 +290,9 @@ impl<C: Drop> Records<C> {
         }
     }
 
-    /// Makes a connection idle that a claimed approval brought, and that is born now. Where the
-    /// number is no claimed approval the connection comes back, and nothing changes. No birth and
-    /// no entry may lie after `now`. It looks for the approval once.
+    /// Adds the connection of a claimed approval as idle, born now. Returns the connection and
+    /// changes nothing if the number is not that of a claimed approval. No birth and no entry may
+    /// be later than `now`. Looks the approval up once.
     pub fn enter(&mut self, k: Key, conn: C, now: u64, lendings: &mut Lendings) -> Result<(), C>
         requires { NoneAfter now self.old }
         ensures ok { IfOk result (λ u. (places.stands places.is_claimed
@@ -325,11 +327,11 @@ impl<C: Drop> Records<C> {
         }
     }
 
-    /// Takes back a connection that somebody holds, which is idle again and keeps its birth. Where
-    /// it is broken, or older than `greatest_age`, or the pool has ended, it is handed back
-    /// instead, with whether it is older than that, and nothing changes. Where the holder does not
-    /// have it, it comes back, and nothing changes. No birth and no entry may lie after `now`. It
-    /// looks for the connection once.
+    /// Makes a checked-out connection idle again; it keeps its birth. Returns it instead, with
+    /// whether it is older than `greatest_age`, and changes nothing, if it is broken or older than
+    /// that, or the pool has ended. Returns `Err` with the connection and changes nothing if it is
+    /// not checked out by this holder. No birth and no entry may be later than `now`. Looks the
+    /// connection up once.
     #[inline(always)]
     pub fn put_back(
         &mut self,
@@ -380,8 +382,8 @@ impl<C: Drop> Records<C> {
         }
     }
 
-    /// Ends a claimed approval, and tells whether the number is one. Where it is none nothing
-    /// changes. It looks for it once.
+    /// Ends a claimed approval. Returns false and changes nothing if the number is not that of one.
+    /// Looks it up once.
     pub fn end_claimed(&mut self, k: Key, lendings: &mut Lendings) -> bool
         ensures ended { result ≡ true → (places.stands places.is_claimed
             (map.get self.old.places k.number) ≡ true)
@@ -403,7 +405,7 @@ impl<C: Drop> Records<C> {
         }
     }
 
-    /// Ends a connection that a guard or a get held.
+    /// Ends a checked-out connection.
     pub fn close(&mut self, k: Key, lendings: &mut Lendings)
         requires { (s : Standing C) × (map.get self.old.places k.number ≡ Some s)
             × (places.is_out s.place ≡ true) }
@@ -420,7 +422,7 @@ impl<C: Drop> Records<C> {
         }
     }
 
-    /// Ends the idle connection that entered first, and offers it to a list.
+    /// Ends the connection that has been idle longest, and offers it to a list.
     fn end_idle(&mut self, closed: &mut ClosedList<C>) -> Option<Key>
         ensures some { IfSome result (λ key. (slice_get self.old.idle 0 ≡ Some key.number)
             × (self.new ≡ machine.after_idle_end key.number self.old)) }
@@ -439,7 +441,7 @@ impl<C: Drop> Records<C> {
         }
     }
 
-    /// Ends the unclaimed approval of the least number.
+    /// Ends the unclaimed approval with the lowest number.
     fn end_unclaimed(&mut self) -> Option<Key>
         ensures some { IfSome result (λ key. (slice_get self.old.unclaimed 0 ≡ Some key.number)
             × (self.new ≡ machine.after_unclaimed_end key.number self.old)) }
@@ -456,7 +458,7 @@ impl<C: Drop> Records<C> {
         }
     }
 
-    /// Ends all idle connections, offers them to a list, and tells how many they were.
+    /// Ends all idle connections, offers them to a list, and returns their count.
     fn end_idles(&mut self, closed: &mut ClosedList<C>) -> u32
         ensures many { result ≡ length self.old.idle }
         ensures listed { closed.new ≡ offered_all (closed_of self.old.idle self.old.places)
@@ -479,8 +481,8 @@ impl<C: Drop> Records<C> {
         }
     }
 
-    /// Ends all that nobody holds or claimed: the idle connections, which are counted and offered
-    /// to a list, and the unclaimed approvals.
+    /// Ends all idle connections and unclaimed approvals. Offers the connections to a list and
+    /// returns their count.
     pub fn leave(&mut self, closed: &mut ClosedList<C>) -> u32
         ensures many { result ≡ length self.old.idle }
         ensures listed { closed.new ≡ offered_all (closed_of self.old.idle self.old.places)
@@ -492,7 +494,7 @@ impl<C: Drop> Records<C> {
         many
     }
 
-    /// Makes room for a higher peak.
+    /// Allocates for a higher peak.
     fn make_room(&mut self, peak: u64) -> Result<(), AllocError>
         requires higher { self.old.peak ≤ peak }
         requires few { peak ≤ most_records }
@@ -506,7 +508,7 @@ impl<C: Drop> Records<C> {
         Ok(())
     }
 
-    /// Makes room for one more record, where there is none yet.
+    /// Makes sure that there is room for one more record. Returns false if memory is refused.
     fn make_room_for_one(&mut self) -> bool
         requires { self.old.conns + self.old.approved < most_records }
         ensures made { result ≡ true → self.new ≡ record
@@ -518,7 +520,7 @@ impl<C: Drop> Records<C> {
         used < self.peak || self.make_room(used + 1).is_ok()
     }
 
-    /// Makes an idle connection of the next number, for which there is room.
+    /// Adds an idle connection with the next number. There must be room.
     fn bear(&mut self, conn: C, now: u64) -> Key
         requires moments { NoneAfter now self.old }
         requires room { self.old.conns + self.old.approved < self.old.peak }
@@ -542,8 +544,9 @@ impl<C: Drop> Records<C> {
         Key { number, place }
     }
 
-    /// Adds an idle connection that was born now. Memory is asked for only where there are as many
-    /// records as ever were. No birth and no entry may lie after `now`.
+    /// Adds an idle connection that was born now. Returns it if memory is refused. Memory is
+    /// requested only if there are as many records as ever were. No birth and no entry may be later
+    /// than `now`.
     pub fn add(&mut self, conn: C, now: u64) -> Result<Key, C>
         requires moments { NoneAfter now self.old }
         requires few { self.old.conns + self.old.approved < most_records }
@@ -559,21 +562,21 @@ impl<C: Drop> Records<C> {
         Ok(self.bear(conn, now))
     }
 
-    /// Whether a number is left.
+    /// Returns whether a number is left.
     pub fn has_number(&self) -> bool
         ensures { result ≡ ltb self.now.next end_of_numbers }
     {
         self.next < END_OF_NUMBERS
     }
 
-    /// The next number.
+    /// Returns the next number.
     pub fn next_number(&self) -> u64
         ensures { result ≡ self.now.next }
     {
         self.next
     }
 
-    /// Makes one approval, for which there is room.
+    /// Adds one approval. There must be room.
     fn approve(&mut self, claimed: bool)
         requires room { self.old.conns + self.old.approved < self.old.peak }
         requires number { self.old.next < end_of_numbers }
@@ -589,8 +592,8 @@ impl<C: Drop> Records<C> {
         self.approved += 1;
     }
 
-    /// Grants the approvals that are due, as far as there is room and memory. All room is made
-    /// before the first one.
+    /// Grants the approvals that are due, as far as room and memory allow. All memory is requested
+    /// before the first one is added.
     #[cold]
     fn grant_some(&mut self, due: u64, claimed: bool) -> Grant
         requires { self.old.conns + self.old.approved + due ≤ most_records }
@@ -616,7 +619,7 @@ impl<C: Drop> Records<C> {
         }
     }
 
-    /// As `grant_some`. Most often nothing is due, and that is told without a call.
+    /// As `grant_some`. Usually nothing is due, and then no call is made.
     #[inline]
     pub fn grant(&mut self, due: u64, claimed: bool) -> Grant
         requires { self.old.conns + self.old.approved + due ≤ most_records }
@@ -629,42 +632,42 @@ impl<C: Drop> Records<C> {
         Grant::of_nothing(self.next)
     }
 
-    /// How many open approvals there are.
+    /// Returns the count of open approvals.
     pub fn approved(&self) -> u64
         ensures { result ≡ self.now.approved }
     {
         self.approved
     }
 
-    /// How many connections and open approvals there are.
+    /// Returns the count of connections and open approvals.
     pub fn used(&self) -> u64
         ensures { result ≡ self.now.conns + self.now.approved }
     {
         self.conns + self.approved
     }
 
-    /// How many idle connections and open approvals there are.
+    /// Returns the count of idle connections and open approvals.
     pub fn ready(&self) -> u64
         ensures { result ≡ length self.now.idle + self.now.approved }
     {
         self.slots.len() as u64 + self.approved
     }
 
-    /// How many connections there are.
+    /// Returns the count of connections.
     pub fn connections(&self) -> u32
         ensures { result ≡ self.now.conns }
     {
         self.conns as u32
     }
 
-    /// How many idle connections there are.
+    /// Returns the count of idle connections.
     pub fn idle_connections(&self) -> u32
         ensures { result ≡ length self.now.idle }
     {
         self.slots.len() as u32
     }
 
-    /// The birth of the record.
+    /// Returns the birth of a record.
     pub fn birth(&self, k: Key, lendings: &mut Lendings) -> u64
         ensures value { result ≡ places.birth_in (map.get self.now.places k.number) }
         ensures examined { AddsLent 1 1 lendings.old lendings.new }
@@ -676,7 +679,7 @@ impl<C: Drop> Records<C> {
         }
     }
 
-    /// Where the number stands, if it does.
+    /// Returns the key of a record, None if it has ended.
     pub fn find(&self, number: u64, lendings: &mut Lendings) -> Option<Key>
         ensures some { IfSome result (λ key. (key.number ≡ number)
             × IsSome (map.get self.now.places number)) }
@@ -689,7 +692,7 @@ impl<C: Drop> Records<C> {
         }
     }
 
-    /// Whether the number is a claimed approval.
+    /// Returns whether a record is a claimed approval.
     pub fn is_claimed(&self, k: Key, lendings: &mut Lendings) -> bool
         ensures value { result ≡ places.stands places.is_claimed
             (map.get self.now.places k.number) }
@@ -702,7 +705,7 @@ impl<C: Drop> Records<C> {
         }
     }
 
-    /// Whether the number is a connection that a guard holds.
+    /// Returns whether a guard holds a record.
     pub fn is_guarded(&self, k: Key, lendings: &mut Lendings) -> bool
         ensures value { result ≡ places.stands places.is_guarded
             (map.get self.now.places k.number) }

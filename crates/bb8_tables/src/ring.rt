@@ -1,4 +1,4 @@
-//! A ring that takes memory only when it grows.
+//! A ring buffer that allocates only when it grows.
 ghost use Rattle.std.specs.Prelude.{◌≡◌, ◌≤◌, ◌<◌, ◌++◌, ◌∷◌, [], length, slice_get, drop, OnOk, OnErr};
 ghost use Rattle.circular_buffer.specs.Buffer.{buffer};
 ghost use Rattle.bb8_tables.specs.Closed.{offered};
@@ -7,7 +7,7 @@ use circular_buffer::HeapCircularBuffer;
 use std::alloc::{AllocError, Global};
 use std::marker::Model;
 
-/// Items in line, seen as a buffer of items with a capacity.
+/// A queue of items. Contracts see a buffer of items with a capacity.
 #[derive(Drop)]
 pub struct Ring<T> {
     alloc: Global,
@@ -26,21 +26,21 @@ impl<T> Model for Ring<T> {
 }
 
 impl<T: Drop> Ring<T> {
-    /// An empty ring, which takes no memory.
+    /// Returns an empty ring. It allocates nothing.
     pub fn new(alloc: Global) -> Self
         ensures { result ≡ buffer [] 0 }
     {
         Ring { alloc, made: None }
     }
 
-    /// An empty ring over the same memory, of which it takes none.
+    /// Returns an empty ring with the same allocator. It allocates nothing.
     pub fn another<U: Drop>(&self) -> Ring<U>
         ensures { result ≡ buffer [] 0 }
     {
         Ring::new(self.alloc)
     }
 
-    /// Makes room for so many items in all.
+    /// Grows to a capacity of this many items.
     pub fn grow(&mut self, capacity: usize) -> Result<(), AllocError>
         requires { length self.old.items ≤ capacity }
         ensures ok { OnOk result (self.new ≡ buffer self.old.items capacity) }
@@ -56,7 +56,7 @@ impl<T: Drop> Ring<T> {
         }
     }
 
-    /// Adds an item at the back, for which there is room.
+    /// Adds an item at the back. There must be room.
     pub fn push(&mut self, item: T)
         requires { length self.old.items < self.old.capacity }
         ensures { self.new ≡ buffer (self.old.items ++ item ∷ []) self.old.capacity }
@@ -69,7 +69,7 @@ impl<T: Drop> Ring<T> {
         }
     }
 
-    /// Adds an item at the back, where there is room, and drops it where there is none.
+    /// Adds an item at the back if there is room; otherwise drops it.
     pub fn offer(&mut self, item: T)
         ensures { self.new ≡ offered item self.old }
     {
@@ -81,7 +81,7 @@ impl<T: Drop> Ring<T> {
         }
     }
 
-    /// Takes the item at the front.
+    /// Removes the item at the front.
     pub fn pop(&mut self) -> Option<T>
         ensures value { result ≡ slice_get self.old.items 0 }
         ensures items { self.new ≡ buffer (drop 1 self.old.items) self.old.capacity }
@@ -92,7 +92,7 @@ impl<T: Drop> Ring<T> {
         }
     }
 
-    /// How many items there are.
+    /// Returns the count of items.
     pub fn len(&self) -> usize
         ensures items { result ≡ length self.now.items }
         ensures room { result ≤ self.now.capacity }

@@ -1,4 +1,4 @@
-//! A table of places, in which each number stands once, and some stand in line.
+//! A table of numbered entries, with a queue of some of them.
 ghost use Rattle.std.specs.Prelude.{◌≡◌, ◌≢◌, ℕ, List, ◌+◌, ◌-◌, ◌<◌, ◌≤◌, min, IsSome, IfSome, IfNone, OnOk, OnErr, Some, None, option_copied, [], slice_get, slice_set, length, ◌++◌, ◌∷◌, false};
 ghost use Rattle.bb8_tables.specs.declared.table.Slot.{Slot};
 ghost use Rattle.bb8_types.specs.declared.standing.Standing.{Standing};
@@ -16,26 +16,26 @@ use crate::line::Line;
 use bb8_types::api::QueueStrategy;
 use bb8_types::bounds::END_OF_NUMBERS;
 use bb8_types::standing::{GetPlace, Getting, Place, Standing};
-pub use lendings::{Lendings, UncountedAccess};
+pub use lendings::{LatestLendings, Lendings, UncountedAccess};
 use std::alloc::{AllocError, Global};
 use std::marker::Model;
 use std::mem;
 
-/// What stands at a place, with its number.
+/// A table entry: a number and its state.
 #[derive(Drop)]
 pub struct Slot<S> {
     /// The number.
     pub number: u64,
-    /// What stands there.
+    /// The state.
     pub standing: S,
 }
 
-/// How many places are added at most beyond those that are asked for.
+/// The most free entries that are added beyond those requested.
 const MOST_AT_ONCE: usize = 64;
 
-/// What a free place holds.
+/// The content of a free entry.
 pub trait Vacant {
-    /// Something that is never seen.
+    /// Returns a state that is never seen.
     fn vacant() -> Self;
 }
 
@@ -58,9 +58,9 @@ impl Vacant for Getting {
     }
 }
 
-/// Places, with the line of those that stand in it, and those of connections by birth. Ended places
-/// are used again, the last one first. No place is the first one, which stands for the ends of both
-/// orders.
+/// A table of entries by index. `line` is a queue of some of them; `births` orders connections by
+/// birth. Freed indexes are reused, the last one first. Index 0 is never used: it marks the ends of
+/// both lists.
 #[derive(Drop)]
 pub struct Table<S> {
     slots: Vec<Slot<S>>,
@@ -83,7 +83,8 @@ impl<S> Model for Table<S> {
 }
 
 impl<S: Drop> Table<S> {
-    /// An empty table, which takes no memory, and the leave to ask.
+    /// Returns an empty table, which allocates nothing, and the permission to read it without
+    /// counting the access.
     pub fn new(alloc: Global) -> (Self, UncountedAccess)
         ensures { result.0 ≡ record { slots = []; line = []; births = []; free = 0 } }
     {
@@ -96,7 +97,7 @@ impl<S: Drop> Table<S> {
         (table, UncountedAccess::given())
     }
 
-    /// Takes a free place, of which there is one.
+    /// Fills a free entry and returns its index. There must be one.
     #[inline]
     pub fn insert(&mut self, slot: Slot<S>) -> usize
         requires free { 0 < self.old.free }
@@ -110,7 +111,7 @@ impl<S: Drop> Table<S> {
         ensures room { self.new.free + 1 ≡ self.old.free }
     {
         match self.free.pop() {
-            // One is free, so this does not come.
+            // Unreachable: one is free.
             None => 0,
             Some(place) => {
                 self.slots[place as usize] = slot;
@@ -119,7 +120,7 @@ impl<S: Drop> Table<S> {
         }
     }
 
-    /// What stands at a place, if it has that number.
+    /// Returns the entry at an index if it has this number.
     #[inline]
     fn found(&self, number: u64, at: usize) -> Option<&Slot<S>>
         ensures some { IfSome (option_copied result)
@@ -139,7 +140,7 @@ impl<S: Drop> Table<S> {
         }
     }
 
-    /// Where a search finds the number, which is counted.
+    /// Searches all entries for a number and returns its index. The search is counted.
     #[cold]
     fn search(&self, number: u64, lendings: &mut Lendings) -> Option<usize>
         ensures some { IfSome result (λ i. (x : Slot S) × (slot_at self.now i ≡ Some x)
@@ -157,7 +158,7 @@ impl<S: Drop> Table<S> {
         None
     }
 
-    /// Where the number stands: at the hint, or else where a search finds it, which is counted.
+    /// Returns the index of a number: the hint if it is right, else the result of a counted search.
     #[inline]
     pub fn locate(&self, number: u64, hint: usize, lendings: &mut Lendings) -> Option<usize>
         ensures some { IfSome result (λ i. (x : Slot S) × (slot_at self.now i ≡ Some x)
@@ -177,7 +178,7 @@ impl<S: Drop> Table<S> {
         }
     }
 
-    /// What a search finds under the number, which is counted.
+    /// Returns the entry with a number, by a counted search.
     #[cold]
     fn sought(&self, number: u64, lendings: &mut Lendings) -> Option<&Slot<S>>
         ensures some { IfSome (option_copied result)
@@ -192,8 +193,8 @@ impl<S: Drop> Table<S> {
         }
     }
 
-    /// What stands under the number: at the hint, or else where a search finds it, which is
-    /// counted. One entry is lent.
+    /// Returns the entry with a number: at the hint if that is right, else by a counted search.
+    /// Reads one entry.
     #[inline]
     pub fn slot(&self, number: u64, hint: usize, lendings: &mut Lendings) -> Option<&Slot<S>>
         ensures some { IfSome (option_copied result)
@@ -214,7 +215,7 @@ impl<S: Drop> Table<S> {
         }
     }
 
-    /// What stands at a place. One entry is lent.
+    /// Returns the entry at an index. Reads one entry.
     #[inline]
     pub fn at(&self, place: usize, lendings: &mut Lendings) -> &Slot<S>
         requires stands { IsSome (slot_at self.now place) }
@@ -225,7 +226,7 @@ impl<S: Drop> Table<S> {
         &self.slots[place]
     }
 
-    /// How many places stand in line.
+    /// Returns the length of the queue.
     #[inline]
     pub fn len(&self) -> usize
         ensures { result ≡ length self.now.line }
@@ -233,7 +234,7 @@ impl<S: Drop> Table<S> {
         self.line.len()
     }
 
-    /// The place that came into line first.
+    /// Returns the index at the front of the queue.
     #[inline]
     pub fn first(&self) -> Option<usize>
         ensures { result ≡ slice_get self.now.line 0 }
@@ -241,7 +242,7 @@ impl<S: Drop> Table<S> {
         self.line.first()
     }
 
-    /// The place that came into line first, or the one that came last.
+    /// Returns the index at the front of the queue (`Fifo`) or at its back (`Lifo`).
     #[inline]
     pub fn first_by(&self, strategy: QueueStrategy) -> Option<usize>
         ensures { result ≡ slice_get self.now.line
@@ -253,7 +254,7 @@ impl<S: Drop> Table<S> {
         }
     }
 
-    /// Puts a place at the new end of the line.
+    /// Adds an index at the back of the queue.
     #[inline]
     pub fn line_up(&mut self, place: usize)
         requires stands { IsSome (slot_at self.old place) }
@@ -263,7 +264,7 @@ impl<S: Drop> Table<S> {
         self.line.push(place);
     }
 
-    /// How many places stand in the order of births.
+    /// Returns the length of the order of births.
     #[inline]
     pub fn births(&self) -> usize
         ensures { result ≡ length self.now.births }
@@ -271,7 +272,7 @@ impl<S: Drop> Table<S> {
         self.births.len()
     }
 
-    /// The place whose connection was born first.
+    /// Returns the index of the oldest connection.
     #[inline]
     pub fn first_birth(&self) -> Option<usize>
         ensures { result ≡ slice_get self.now.births 0 }
@@ -279,8 +280,8 @@ impl<S: Drop> Table<S> {
         self.births.first()
     }
 
-    /// What stands at a place, and the place after it in the order of births. One entry is lent for
-    /// both.
+    /// Returns the entry at an index, and the next index in the order of births. Reads one entry
+    /// for both.
     #[inline]
     pub fn pass(&self, place: usize, lendings: &mut Lendings) -> (&Slot<S>, Option<usize>)
         requires member { (j : ℕ) × (slice_get self.now.births j ≡ Some place) }
@@ -294,7 +295,7 @@ impl<S: Drop> Table<S> {
         (self.at(place, lendings), next)
     }
 
-    /// Puts a place at the new end of the order of births.
+    /// Adds an index at the back of the order of births.
     #[inline]
     pub fn add_birth(&mut self, place: usize)
         requires stands { IsSome (slot_at self.old place) }
@@ -304,7 +305,7 @@ impl<S: Drop> Table<S> {
         self.births.push(place);
     }
 
-    /// Takes a place out of line that stands in it.
+    /// Removes an index that is in the queue.
     #[inline]
     pub fn leave(&mut self, place: usize)
         requires stands { IsSome (slot_at self.old place) }
@@ -314,7 +315,7 @@ impl<S: Drop> Table<S> {
         self.line.leave(place);
     }
 
-    /// Takes a place out of line, wherever it stands in it, if it does.
+    /// Removes an index from the queue if it is in it.
     #[inline]
     pub fn step_out(&mut self, place: usize)
         requires { IsSome (slot_at self.old place) }
@@ -323,7 +324,7 @@ impl<S: Drop> Table<S> {
         self.line.unlink(place);
     }
 
-    /// Has something else stand at a place, and gives back what stood there.
+    /// Replaces the state at an index and returns the old one.
     #[inline]
     pub fn replace(&mut self, place: usize, standing: S, lendings: &mut Lendings) -> S
         requires stands { IsSome (slot_at self.old place) }
@@ -341,7 +342,7 @@ impl<S: Drop> Table<S> {
 }
 
 impl<S: Drop + Vacant> Table<S> {
-    /// Frees a place, wherever it stands in the orders, and gives back what stood there.
+    /// Frees an entry, removes it from both orders, and returns it.
     #[inline(always)]
     pub fn take_out(&mut self, place: usize) -> Slot<S>
         requires { IsSome (slot_at self.old place) }
@@ -357,7 +358,7 @@ impl<S: Drop + Vacant> Table<S> {
         self.release(place)
     }
 
-    /// Frees a place that is not in line, and gives back what stood there.
+    /// Frees an entry that is not in the queue, and returns it.
     #[inline(always)]
     pub fn release(&mut self, place: usize) -> Slot<S>
         requires stands { IsSome (slot_at self.old place) }
@@ -379,7 +380,7 @@ impl<S: Drop + Vacant> Table<S> {
         mem::replace(&mut self.slots[place], vacant)
     }
 
-    /// Frees a place, and tells which number ended there.
+    /// Frees an entry and returns its number.
     #[inline(always)]
     pub fn remove(&mut self, place: usize) -> u64
         requires { IsSome (slot_at self.old place) }
@@ -394,18 +395,18 @@ impl<S: Drop + Vacant> Table<S> {
         self.take_out(place).number
     }
 
-    /// Takes the memory for so many more places.
+    /// Allocates for this many more entries.
     fn grow(&mut self, additional: usize) -> Result<(), AllocError>
         ensures { self.new ≡ self.old }
     {
-        // First what takes most, so that little is kept where it is refused.
+        // The largest first, so that little is kept if memory is refused.
         self.slots.reserve(additional)?;
         self.line.reserve(additional)?;
         self.births.reserve(additional)?;
         self.free.reserve(additional)
     }
 
-    /// Adds a place where nothing stands, which is free but where it is the first one.
+    /// Adds an empty entry. It is free, except for the one at index 0.
     #[inline(always)]
     fn add_place(&mut self) -> Result<(), AllocError>
         ensures ok { OnOk result (self.new ≡ record self.old {
@@ -430,7 +431,7 @@ impl<S: Drop + Vacant> Table<S> {
         Ok(())
     }
 
-    /// Adds so many free places. Some of them may stand where memory for all was refused.
+    /// Adds this many free entries. If memory is refused, some of them may have been added.
     fn add_places(&mut self, count: usize) -> Result<(), AllocError>
         ensures room { OnOk result (self.old.free + count ≤ self.new.free) }
         ensures more { self.old.free ≤ self.new.free }
@@ -448,9 +449,9 @@ impl<S: Drop + Vacant> Table<S> {
         Ok(())
     }
 
-    /// Makes room for so many more in all. Where there is none yet, as many places more are added
-    /// as there are, up to `MOST_AT_ONCE`, so that most calls find room; where memory for those is
-    /// refused, as many as are missing.
+    /// Makes sure that this many entries are free. If there are fewer, those missing are added; or,
+    /// if that is more, as many as the table has, up to `MOST_AT_ONCE`, so that most calls allocate
+    /// nothing. If that memory is refused, only those missing are added.
     pub fn reserve(&mut self, additional: usize) -> Result<(), AllocError>
         ensures room { OnOk result (additional ≤ self.new.free) }
         ensures more { self.old.free ≤ self.new.free }
@@ -472,7 +473,7 @@ impl<S: Drop + Vacant> Table<S> {
 }
 
 impl<C: Drop> Table<Standing<C>> {
-    /// Has the record at a place stand elsewhere, and tells its number and where it stood.
+    /// Changes the state of the record at an index, and returns its number and its old state.
     #[inline]
     pub fn put(&mut self, at: usize, place: Place<C>, lendings: &mut Lendings) -> (u64, Place<C>)
         requires stands { IsSome (slot_at self.old at) }
@@ -494,7 +495,7 @@ impl<C: Drop> Table<Standing<C>> {
 }
 
 impl Table<Getting> {
-    /// Has the get at a place stand elsewhere, and tells its number.
+    /// Changes the state of the get at an index, and returns its number.
     #[inline]
     pub fn turn(&mut self, at: usize, place: GetPlace, lendings: &mut Lendings) -> u64
         requires stands { IsSome (slot_at self.old at) }
@@ -512,7 +513,7 @@ impl Table<Getting> {
         slot.number
     }
 
-    /// Has the get that stands at a place wait, since this moment if it did not wait before.
+    /// Makes the get at an index wait, since `now` if it did not wait before.
     #[inline]
     pub fn wait(&mut self, at: usize, now: u64, lendings: &mut Lendings)
         requires stands { IsSome (slot_at self.old at) }

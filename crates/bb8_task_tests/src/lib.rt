@@ -1,4 +1,4 @@
-//! Tests of the polled tasks, by public items alone.
+//! Tests of the polled tasks, which use public items only.
 #![tactic(auto)]
 
 #[cfg(test)]

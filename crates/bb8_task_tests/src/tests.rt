@@ -1,4 +1,4 @@
-//! Tests of the tasks of a pool, against values that were worked out by hand.
+//! Tests of a pool's tasks, against values that were worked out by hand.
 
 mod polls;
 mod reaper;
@@ -7,7 +7,7 @@ mod replays;
 use std::fmt::Debug;
 use std::process::Abort;
 
-/// Ends the test where what was found is not what is wanted, and prints both.
+/// Ends the test if the found value is not the wanted one, and prints both.
 fn assert_equal<T: PartialEq + Debug + Drop>(rt: &impl Abort, found: T, wanted: T) {
     assert_eq!(rt; found, wanted);
 }

@@ -33,7 +33,7 @@ module _ {C E V A X : Type 0} (home : HomeOf X C) (timeout : ℕ) (retry : Bool)
 
   opens : (step : Result (OpenedAnswer C) C) (x x' : X) (next : ReplenishStep C V A E) → AfterOpened home timeout retry approval m opener step x next x' → Ends next.answer next.stage
   opens (Ok (opened.Entered notified)) x x' next a = left Entered next a.0 a.1
-  opens (Ok (opened.Late c)) x x' next a = left Late next a.2.0 a.2.1
+  opens (Ok (opened.Late c)) x x' next (x1, dropped, (grant, x2, asked, a)) = left Late next a.0 a.1
   opens (Err c) x x' next a = left GivenBack next a.2.0 a.2.1
 
   prepares : (answer : Poll (Result (Unit {0}) E)) (tries : Tries) (c : C) (acquiring : A) (x x' : X) (next : ReplenishStep C V A E)

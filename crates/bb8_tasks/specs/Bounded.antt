@@ -1,10 +1,10 @@
--- How many openings a replay of one replenishing begins.
+-- How many connection attempts a replay of one task begins.
 use Rattle.std.specs.Prelude.{◌≡◌, ℕ, ◌+◌, ◌/◌, ◌<◌, ◌≤◌, Bool, true, List, [], ◌∷◌, ⊤, ◌⊎◌}
 use Rattle.bb8_tasks.specs.Words.{Moment, last_moment, waits, IsMostWaits, Reply}
 use Rattle.bb8_tasks.specs.declared.backoff.Reply.TheVariants.{Err}
 
--- Where half the timeout is not zero: at most two more than the most first waits whose sum is at
--- most the timeout, and there is such a number.
+-- If half the timeout is not zero: at most n + 2, where n is the greatest number of first waits
+-- whose sum is at most the timeout. Such an n exists.
 abbrev pub IsBounded : ℕ → ℕ → Type 0
 IsBounded timeout tries = 0 < timeout / 2 → (n : ℕ) × IsMostWaits timeout n × (tries ≤ n + 2)
 
@@ -23,20 +23,20 @@ abbrev pub EachFails : List (Moment × Reply) → Type 0
 EachFails [] = ⊤
 EachFails (p ∷ polls) = (p.1 ≡ Err) × EachFails polls
 
--- some poll of the list is at this moment
+-- the list polls at this moment
 abbrev pub IsPolledAt : ℕ → List (Moment × Reply) → Type 0
 IsPolledAt m [] = ⊥
 IsPolledAt m (p ∷ polls) = (p.0.0 ≡ m) ⊎ IsPolledAt m polls
 
--- A list that is not empty, whose moments never fall, whose replies are errors, and that polls at
--- each due moment: the first moment and the first k waits, k from 1 to n + 1. None of these is past
--- the greatest moment.
+-- A list that is not empty, whose moments never fall and whose replies are all errors, and that
+-- polls at each due moment: the first moment, and then after each of the first n + 1 waits. None of
+-- these exceeds the greatest moment.
 abbrev pub IsDriven : ℕ → ℕ → List (Moment × Reply) → Type 0
 IsDriven timeout n [] = ⊥
 IsDriven timeout n (p ∷ polls) =
     NeverFalls (p ∷ polls) × EachFails (p ∷ polls) × ((k : ℕ) → 1 ≤ k → k ≤ n + 1 → IsPolledAt (p.0.0 + waits timeout k) (p ∷ polls))
     × (p.0.0 + waits timeout (n + 1) ≤ last_moment)
 
--- the bound is reached by each such list
+-- each such list reaches the bound
 abbrev pub IsReached : ℕ → Bool → List (Moment × Reply) → ℕ → Type 0
 IsReached timeout retry polls tries = (n : ℕ) → 0 < timeout / 2 → IsMostWaits timeout n → retry ≡ true → IsDriven timeout n polls → tries ≡ n + 2

@@ -9,5 +9,7 @@ pub mod Replenishing
 pub mod Rounds
 pub mod Sweeping
 pub mod TaskSteps
+pub mod Ticks
 pub mod Turns
+pub mod Upkeep
 pub mod Words

@@ -1,4 +1,4 @@
--- Replays of one replenishing over a list of polls.
+-- Replays of one task over a list of polls.
 use Rattle.std.specs.Prelude.{◌≡◌, ℕ, ◌+◌, min, Bool, true, None, Result, Ok, Err, List, [], ◌∷◌}
 use Rattle.bb8_tasks.specs.Words.{Poll, Ready, Pending, Moment, Reply, HomeOf, OpenerOf, Replenish, ReplenishAnswer}
 use Rattle.bb8_tasks.specs.declared.backoff.Reply.TheVariants as replies
@@ -10,18 +10,18 @@ use Rattle.bb8_core.specs.declared.answers.ClaimAnswer.TheVariants as claiming
 use Rattle.bb8_tasks.specs.Replenishing.{fresh, TaskPolls}
 use Rattle.bb8_tasks.specs.TaskSteps.{TaskStep, Looks, Opens, Fails, Claims, Reaps, Asks}
 
--- the answer of a poll of an opening that a reply stands for
+-- the poll result that a reply stands for
 abbrev pub told : Reply → Poll (Result (Unit {0}) (Unit {0}))
 told replies.Pending = Pending
 told replies.Ok = Ready (Ok tt)
 told replies.Err = Ready (Err tt)
 
--- one more opening was begun; a poll counts to 255
+-- one more attempt was begun; a poll counts to 255
 abbrev pub begun : Scripted → Scripted
 begun script = record { reply = script.reply; tries = min (script.tries + 1) 255 }
 
--- the relations of the value of a replay as an opener: it answers by its reply, and its
--- preparations are ready at once
+-- the relations of a replay as an opener: it gives its reply, and its preparations are ready at
+-- once
 abbrev pub scripted : OpenerOf Scripted (Unit {0}) (Unit {0}) (Unit {0}) (Unit {0})
 scripted = record {
   tells = λ script _ after. after ≡ script;
@@ -35,8 +35,8 @@ scripted = record {
   lets_go = λ script _ after. after ≡ script;
 }
 
--- what it answers as a home: it keeps a handle, enters what is opened, and has nothing to claim, to
--- reap or to ask for
+-- its results as a home: it has a handle, accepts opened connections, and has nothing to claim,
+-- reap or ask for
 abbrev pub IsSteady : Moment → TaskStep (Unit {0}) → Type 0
 IsSteady at (Looks seen) = seen ≡ record { moment = at; alive = true }
 IsSteady at (Opens a c step) = step ≡ Ok (opening.Entered None)
@@ -48,21 +48,21 @@ IsSteady at (Asks grant) = grant ≡ record { first = 0; count = 0; withheld = 0
 abbrev pub steady : HomeOf Scripted (Unit {0})
 steady = record { steps = λ script at step after. IsSteady at step × (after ≡ script) }
 
--- a task whose connections, openings and preparations are nothing
+-- a task whose connections, attempts and preparations are `()`
 abbrev pub Task : Type 0
 Task = Replenish (Unit {0}) (Unit {0}) (Unit {0})
 
--- the task of a replay, which was not polled yet
+-- the task of a replay; it was not polled yet
 abbrev pub first_task : Task
 first_task = fresh (record { number = 0; place = 0 })
 
 module _ (timeout : ℕ) (retry : Bool) where
-  -- one poll by the table, at its moment and with its reply: it begins so many openings
+  -- one poll by the table, at its moment and with its reply; it begins this number of attempts
   abbrev pub Polled : Moment × Reply → Task → ℕ → ReplenishAnswer (Unit {0}) → Task → Type 0
   Polled p t tries answer t' =
       (after : Scripted) × TaskPolls steady scripted timeout retry p.0 t (record { reply = p.1; tries = 0 }) answer t' after × (tries ≡ after.tries)
 
-  -- polls by the table, one after another: the answers, and how many openings they begin
+  -- polls by the table in order: their results, and how many attempts they begin
   abbrev pub Runs : Task → List (Moment × Reply) → List (ReplenishAnswer (Unit {0})) → ℕ → Task → Type 0
   Runs t [] [] tries t' = (tries ≡ 0) × (t' ≡ t)
   Runs t [] (a ∷ answers) tries t' = ⊥
@@ -70,6 +70,6 @@ module _ (timeout : ℕ) (retry : Bool) where
   Runs t (p ∷ polls) (a ∷ answers) tries t' =
       (first : ℕ) × (between : Task) × (rest : ℕ) × Polled p t first a between × Runs between polls answers rest t' × (tries ≡ first + rest)
 
-  -- the polls of a task that was not polled before
+  -- the polls of a new task
   abbrev pub Plays : List (Moment × Reply) → List (ReplenishAnswer (Unit {0})) → ℕ → Type 0
   Plays polls answers tries = (last : Task) × Runs first_task polls answers tries last

@@ -1,5 +1,5 @@
--- The steps of tasks, of a driver's claims and of its reaper on their home, each with what it was
--- given and what it answered.
+-- The steps that tasks, a driver's claims and its reaper make on their home, with their arguments
+-- and results.
 use Rattle.bb8_tables.specs.declared.keys.Key.{Key}
 use Rattle.bb8_core.specs.declared.answers.ClaimAnswer.{ClaimAnswer}
 use Rattle.bb8_core.specs.declared.answers.Looked.{Looked}
@@ -10,7 +10,7 @@ use Rattle.bb8_core.specs.declared.answers.OpenedAnswer.{OpenedAnswer}
 use Rattle.bb8_core.specs.declared.answers.ReapAnswer.{ReapAnswer}
 use Rattle.bb8_types.specs.declared.grants.Grant.{Grant}
 
--- Each step, of which approval, with what is handed in, and its answer.
+-- Each step: the approval, the connection passed in, and the result.
 pub data TaskStep (C : Type 0) : Type 0 where
   Looks : Looked → TaskStep C
   Opens : Key → C → Result (OpenedAnswer C) C → TaskStep C

@@ -1,4 +1,4 @@
--- The words that the definitions speak with.
+-- Names that the definitions use (*words-file*).
 pub use Rattle.bb8_types.specs.declared.api.moments.Moment.{Moment}
 pub use Rattle.bb8_types.specs.Bounds.{last_moment}
 pub use Rattle.bb8_ledger.specs.Waits.{waits, IsMostWaits, wait}
@@ -20,5 +20,6 @@ pub use Rattle.std.specs.Duration.{as_nanos}
 pub use Rattle.bb8_core.specs.declared.answers.Looked.{Looked}
 pub use Rattle.bb8_tasks.specs.declared.reaper.Reaper.{Reaper}
 pub use Rattle.bb8_tasks.specs.declared.reaper.ReaperAnswer.{ReaperAnswer}
+pub use Rattle.bb8_tasks.specs.declared.ticks.Ticks.{Ticks}
 pub use Rattle.bb8_tables.specs.declared.keys.Key.{Key}
 pub use Rattle.bb8_tasks.specs.declared.replenish.ReplenishAnswer.TheVariants.{Retrying, Failed}

@@ -1,4 +1,4 @@
-//! A replay of one replenishing over a list of polls, each with what the manager answers at it.
+//! Replays one task over a list of polls, each with the manager's reply.
 ghost use Rattle.std.specs.Prelude.{◌≡◌, ◌<◌, ◌≤◌, ◌+◌, IfOk, None, Ok, true, false, length};
 ghost use Rattle.std.specs.Duration.{as_nanos};
 ghost use Rattle.futures.specs.declared.task.Poll.TheVariants.{Ready};
@@ -15,20 +15,20 @@ use bb8_core::internals::{
 use futures::task::Poll;
 use std::alloc::Global;
 
-/// What a manager answers at one poll of an opening.
+/// The manager's reply to one poll of a connection attempt.
 #[derive(Clone, Copy, Debug, PartialEq, Eq)]
 pub enum Reply {
-    /// The opening is under way.
+    /// Still connecting.
     Pending,
     /// The connection is open.
     Ok,
-    /// The opening failed.
+    /// The attempt failed.
     Err,
 }
 
-/// Answers each poll of an opening by this reply, counts the openings that are begun, and prepares
-/// at once. As a home it keeps a handle, enters what is opened, has nothing to claim, to reap or to
-/// ask for, and its moment is each reading of the clock. Connections are nothing.
+/// A manager that gives this reply to each poll of an attempt, counts the attempts, and prepares
+/// connections at once. As a home it has a handle, accepts opened connections, has nothing to
+/// claim, reap or ask for, and its moment is each clock reading. Connections are `()`.
 #[derive(Drop)]
 pub struct Scripted {
     reply: Reply,
@@ -134,16 +134,16 @@ impl Home<()> for Scripted {
     }
 }
 
-/// What a replenishing answered at each poll, and how many openings it began.
+/// The results of a replay.
 #[derive(Drop)]
 pub struct Backoff {
-    /// The answers, one a poll.
+    /// The result of each poll.
     pub answers: Vec<ReplenishAnswer<()>>,
-    /// How many openings were begun.
+    /// The number of connection attempts that were begun.
     pub tries: u64,
 }
 
-/// One poll of the replay: the answer, and how many openings it began.
+/// Makes one poll of the replay. Returns its result and the number of attempts that it began.
 fn play(
     task: &mut Replenish<(), (), ()>,
     config: &Config,
@@ -158,7 +158,7 @@ fn play(
     (answer, script.tries)
 }
 
-/// The polls of the replay, one after another.
+/// Makes all polls of the replay in order.
 fn play_all(
     alloc: Global,
     task: &mut Replenish<(), (), ()>,
@@ -178,13 +178,13 @@ fn play_all(
     Ok(Backoff { answers, tries })
 }
 
-/// Polls a replenishing at these moments, which may go back, with a manager that gives these
-/// replies. A handle stays alive, and what is opened is entered. It refuses only where the list of
-/// answers could not grow.
+/// Polls a task at these moments, which may go backwards, with a manager that gives these replies.
+/// A handle stays alive, and opened connections are accepted. Returns `Memory` only if the list of
+/// results could not grow.
 ///
-/// Whatever the moments and the replies, a task begins at most two more openings than the most
-/// first waits whose sum is at most the `connection_timeout`; a timeout below two nanoseconds,
-/// whose waits are zero, alone has no such bound.
+/// Whatever the moments and the replies, the task begins at most n + 2 connection attempts, if the
+/// sum of the first n waits is at most `connection_timeout` and n is the greatest such number.
+/// Exception: a timeout below two nanoseconds, whose waits are zero, has no such bound.
 pub fn replay_backoff(
     alloc: Global,
     config: Config,

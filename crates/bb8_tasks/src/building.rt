@@ -1,22 +1,22 @@
-//! Where the building of a pool stands.
+//! The stages of a pool that is being built.
 use bb8_core::api::RunError;
 use futures::task::Poll;
 
-/// Where the building of a pool stands between its polls: an `I` is what the pool is to be made of,
-/// a `P` the pool, and a `T` the tasks that open its first connections.
+/// The stage of a build between its polls: `I` is the input, `P` the pool, `T` the tasks that open
+/// its first connections.
 pub enum BuildingStage<I, P, T> {
-    /// It was not polled yet.
+    /// Not polled yet.
     Planned(I),
     /// The pool is made, and these tasks open its first connections.
     Opening(P, T),
-    /// It was answered, or let go.
+    /// It has returned its result, or was cancelled.
     Done,
 }
 
-/// What a poll of a building answers, and where the building stands then.
+/// The result of a poll of a build, and the stage after it.
 pub struct BuildingStep<I, P, T, E> {
-    /// The answer.
+    /// The result.
     pub answer: Poll<Result<P, RunError<E>>>,
-    /// Where it stands.
+    /// The stage after the poll.
     pub stage: BuildingStage<I, P, T>,
 }

@@ -1,12 +1,12 @@
-//! The claims of a turn.
+//! The claims of a driver's turn.
 ghost use Rattle.bb8_tasks.specs.Turns.{Claims};
 
 use crate::{Home, Tasks};
 use bb8_core::api::Moment;
 use bb8_core::internals::ClaimAnswer;
 
-/// Claims approvals until none is unclaimed, and takes on their tasks. It stops where there is no
-/// place for one more task, and there makes no claim. Whether it stopped as no handle is alive.
+/// Claims approvals and adds their tasks until none is unclaimed. If memory for another task is
+/// refused, it stops without a claim. Returns whether it stopped because no handle is alive.
 pub(crate) fn claim_each<C, V, A, H: Home<C>>(
     tasks: &mut Tasks<C, V, A>,
     at: Moment,

@@ -1,4 +1,4 @@
-//! The opening of a connection that no pool counts.
+//! Attempts to open a connection that the pool does not count.
 ghost use Rattle.std.specs.Prelude.{◌≡◌};
 ghost use Rattle.bb8_tasks.specs.Dedicating.{fresh, is_done, OpeningAcquires, OpeningAdvances, OpeningBegins, OpeningConnects, DropsOpening, OpeningPolls};
 ghost use Rattle.bb8_tasks.specs.declared.dedicated.Opening.TheVariants.{Done as IsDone};
@@ -8,28 +8,27 @@ use bb8_core::api::Moment;
 use futures::task::Poll;
 use std::mem;
 
-/// Where the opening of a dedicated connection stands between its polls. It cannot be let go but by
-/// name.
+/// The stage of an attempt between its polls. It cannot be dropped implicitly.
 pub enum Opening<C, V, A> {
-    /// It was not polled yet.
+    /// Not polled yet.
     Fresh,
-    /// The connection is being opened.
+    /// Connecting.
     Connecting(V),
-    /// The connection is open, and is being prepared.
+    /// The connection is open and is being prepared by the customizer.
     Acquiring(C, A),
-    /// It was answered.
+    /// It has returned its result.
     Done,
 }
 
-/// What a poll answers, and where it leaves the opening.
+/// The result of a poll, and the stage after it.
 pub struct Opened<C, V, A, E> {
-    /// The answer.
+    /// The result.
     pub answer: Poll<Result<C, E>>,
-    /// The stage then.
+    /// The stage after the poll.
     pub stage: Opening<C, V, A>,
 }
 
-/// A row's answer, and the stage in which it leaves the opening.
+/// Returns this result and stage as one value.
 fn leaves<C, V, A, E>(answer: Poll<Result<C, E>>, stage: Opening<C, V, A>) -> Opened<C, V, A, E>
     ensures answer { result.answer ≡ answer }
     ensures stage { result.stage ≡ stage }
@@ -37,7 +36,7 @@ fn leaves<C, V, A, E>(answer: Poll<Result<C, E>>, stage: Opening<C, V, A>) -> Op
     Opened { answer, stage }
 }
 
-/// The preparation is polled.
+/// Polls the preparation of an open connection.
 fn acquire<C, E, W: Opener<C, E>>(
     opener: &mut W,
     moment: Moment,
@@ -60,7 +59,7 @@ fn acquire<C, E, W: Opener<C, E>>(
     }
 }
 
-/// The opening is polled.
+/// Polls the connection attempt.
 fn connect<C, E, W: Opener<C, E>>(
     opener: &mut W,
     moment: Moment,
@@ -82,7 +81,7 @@ fn connect<C, E, W: Opener<C, E>>(
     }
 }
 
-/// An opening is begun.
+/// Begins a connection attempt and polls it.
 fn begin<C, E, W: Opener<C, E>>(
     opener: &mut W,
     moment: Moment,
@@ -93,7 +92,7 @@ fn begin<C, E, W: Opener<C, E>>(
     connect(opener, moment, connecting)
 }
 
-/// The row of the stage.
+/// Makes the poll that belongs to the stage.
 fn advance<C, E, W: Opener<C, E>>(
     opener: &mut W,
     moment: Moment,
@@ -112,7 +111,7 @@ fn advance<C, E, W: Opener<C, E>>(
 }
 
 impl<C, V, A> Opening<C, V, A> {
-    /// Whether it was answered.
+    /// Whether the attempt has returned its result.
     fn is_done(&self) -> bool
         ensures { result ≡ is_done self.now }
     {
@@ -123,20 +122,19 @@ impl<C, V, A> Opening<C, V, A> {
     }
 }
 
-/// The opening of a connection that no pool counts: a `C` is the connection, a `V` one that is
-/// being opened, an `A` a preparation. Upstream's is an async function.
+/// An attempt to open a connection that the pool does not count: `C` is the connection, `V` a
+/// connection attempt, `A` a preparation. bb8's is an async function.
 ///
-/// It does nothing until it is polled. It cannot be dropped but by `cancel`, as what it holds is
-/// let go.
+/// It does nothing until it is polled. It cannot be dropped implicitly: `cancel` ends it.
 pub struct Dedicated<C, V, A> {
-    /// The greatest reading of the clock so far.
+    /// The latest moment that it has seen.
     pub latest: Moment,
-    /// Where it stands.
+    /// The current stage.
     pub stage: Opening<C, V, A>,
 }
 
 impl<C, V, A> Dedicated<C, V, A> {
-    /// An opening that was not polled yet.
+    /// Returns an attempt that was not polled yet.
     pub fn new() -> Self
         ensures { result ≡ fresh }
     {
@@ -146,7 +144,7 @@ impl<C, V, A> Dedicated<C, V, A> {
         }
     }
 
-    /// Puts another stage in the place of one that has ended.
+    /// Sets the stage; the old one has ended.
     fn stand(&mut self, stage: Opening<C, V, A>)
         requires { self.old.stage ≡ IsDone }
         ensures { self.new ≡ record { latest = self.old.latest; stage = stage } }
@@ -157,12 +155,12 @@ impl<C, V, A> Dedicated<C, V, A> {
         }
     }
 
-    /// One poll of the opening, at the greatest reading of the clock so far.
+    /// Polls the attempt once, at the latest clock reading so far.
     ///
-    /// It begins one opening at its first poll, and goes on from the opening to the preparation in
-    /// the same poll. It answers the connection, or the first error; a connection whose preparation
-    /// failed is dropped. An opening or a preparation that has answered ends before what follows.
-    /// After an answer each poll is pending, and calls nothing.
+    /// The first poll begins one connection attempt. Once that succeeds, the same poll begins and
+    /// polls the preparation. It returns the connection or the first error; a connection whose
+    /// preparation failed is dropped. A finished attempt or preparation is ended before the next
+    /// callback. After a result each poll returns `Pending` and makes no callback.
     pub fn poll<E, W: Opener<C, E, Connecting = V, Acquiring = A>>(
         &mut self,
         outside: &mut W,
@@ -181,7 +179,7 @@ impl<C, V, A> Dedicated<C, V, A> {
         answer
     }
 
-    /// Lets the opening go: what is under way ends, and a connection that it holds is dropped then.
+    /// Cancels the attempt: ends what is in progress, then drops the connection, if there is one.
     pub fn cancel<E, W: Opener<C, E, Connecting = V, Acquiring = A>>(self, outside: &mut W)
         ensures { DropsOpening W.Opener self.stage outside.old outside.new }
     {

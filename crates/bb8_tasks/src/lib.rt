@@ -1,6 +1,6 @@
-//! The polled tasks of a pool: the opening of a connection, with its waits between tries, its
-//! replay over a list of polls, lists of such tasks, the opening of a connection that no pool
-//! counts, the reaper, and the turns of a driver, which claims approvals and polls their tasks.
+//! Polled tasks of a pool: connection attempts with back-off and their replay over a list of polls,
+//! lists of such tasks, connections that the pool does not count, the reaper, and driver turns,
+//! which claim approvals and poll their tasks.
 #![tactic(auto)]
 
 mod backoff;
@@ -14,7 +14,9 @@ mod reaper;
 mod replenish;
 mod rounds;
 mod tasks;
+mod ticks;
 mod turning;
+mod upkeep;
 mod waits;
 
 pub use backoff::{Backoff, Reply, replay_backoff};
@@ -26,5 +28,7 @@ pub use reaper::{Reaper, ReaperAnswer};
 pub use replenish::{Replenish, ReplenishAnswer, ReplenishStage, ReplenishStep, Tries};
 pub use rounds::{OnFailure, Round};
 pub use tasks::Tasks;
+pub use ticks::Ticks;
 pub use turning::{Turn, Turning};
+pub use upkeep::Upkeep;
 pub use waits::wait_after;

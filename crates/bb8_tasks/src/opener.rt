@@ -1,4 +1,4 @@
-//! What a pool's tasks call outside of its state.
+//! User callbacks that a pool's tasks make.
 ghost use Rattle.std.specs.Prelude.{Result};
 ghost use Rattle.futures.specs.declared.task.Poll.{Poll as PollOf};
 ghost use Rattle.bb8_types.specs.declared.api.moments.Moment.{Moment as MomentOf};
@@ -6,42 +6,42 @@ ghost use Rattle.bb8_types.specs.declared.api.moments.Moment.{Moment as MomentOf
 use bb8_core::api::Moment;
 use futures::task::Poll;
 
-/// The calls by which connections `C` are opened and prepared, which may fail with an `E`, and
-/// where they are let go; and those of the pool's clock and error sink.
+/// The callbacks by which connections `C` are opened, prepared and dropped, with errors `E`; and
+/// those of the pool's clock and error sink.
 ///
-/// Each call changes the value that it is made of, by a relation that says nothing else and has no
-/// default. So a chain of these relations is the list of all calls, in their order: one that is
-/// made twice, left out or made at another place does not fit it. What an opening or a preparation
-/// has begun cannot be let go but by name, too, so its end has its place among them.
+/// Each callback changes the value that it is made on, by a relation of its own that has no
+/// default. So a trace of these relations lists all callbacks in their order: one that is made
+/// twice, left out or moved does not fit it. Attempts and preparations cannot be dropped implicitly
+/// either, so the end of each has its place in the trace.
 pub trait Opener<C, E> {
-    /// A connection that is being opened.
+    /// A connection attempt in progress.
     type Connecting;
 
-    /// A connection's preparation that is under way.
+    /// A preparation of a connection in progress.
     type Acquiring;
 
-    // Holds before a reading of the clock, of the moment that it tells, and after it.
+    // Holds before the clock is read, of the moment that it returns, and after it.
     ghost tells: { Self → MomentOf → Self → Type 0 };
 
-    // Holds before an error is handed to the sink, and after it.
+    // Holds before an error is passed to the sink, and after it.
     ghost sinks: { Self → E → Self → Type 0 };
 
-    // Holds before an opening is begun, of the opening, and after it.
+    // Holds before a connection attempt is begun, of the attempt, and after it.
     ghost connects: { Self → Self.Connecting → Self → Type 0 };
 
-    // Holds before a poll of an opening at a moment, of the answer, of the opening then, and after
-    // it.
+    // Holds before a poll of an attempt at a moment, of the result, of the attempt after the poll,
+    // and after it.
     ghost connect_answers: { Self → Self.Connecting → MomentOf → PollOf (Result C E) → Self.Connecting → Self → Type 0 };
 
-    // Holds before an opening is ended, and after it.
+    // Holds before an attempt is ended, and after it.
     ghost ends_connect: { Self → Self.Connecting → Self → Type 0 };
 
-    // Holds before a connection's preparation is begun, of the preparation, of the connection then,
-    // and after it.
+    // Holds before a preparation of a connection is begun, of the preparation, of the connection
+    // after that, and after it.
     ghost acquires: { Self → C → Self.Acquiring → C → Self → Type 0 };
 
-    // Holds before a poll of a connection's preparation at a moment, of the answer, of the
-    // connection and the preparation then, and after it.
+    // Holds before a poll of a connection's preparation at a moment, of the result, of the
+    // connection and the preparation after the poll, and after it.
     ghost acquire_answers: { Self → C → Self.Acquiring → MomentOf → PollOf (Result (Unit {0}) E) → C → Self.Acquiring → Self → Type 0 };
 
     // Holds before a preparation is ended, and after it.
@@ -54,15 +54,15 @@ pub trait Opener<C, E> {
     fn now(&mut self) -> Moment
         ensures { tells self.old result self.new };
 
-    /// Hands an error to the sink.
+    /// Passes an error to the sink.
     fn sink(&mut self, error: E)
         ensures { sinks self.old error self.new };
 
-    /// Begins to open a connection.
+    /// Begins a connection attempt.
     fn connect(&mut self) -> Self::Connecting
         ensures { connects self.old result self.new };
 
-    /// Goes on with an opening.
+    /// Polls a connection attempt.
     fn poll_connect(
         &mut self,
         connecting: &mut Self::Connecting,
@@ -70,7 +70,7 @@ pub trait Opener<C, E> {
     ) -> Poll<Result<C, E>>
         ensures { connect_answers self.old connecting.old moment result connecting.new self.new };
 
-    /// Ends an opening, which is dropped.
+    /// Ends a connection attempt and drops it.
     fn end_connect(&mut self, connecting: Self::Connecting)
         ensures { ends_connect self.old connecting self.new };
 
@@ -78,7 +78,7 @@ pub trait Opener<C, E> {
     fn on_acquire(&mut self, connection: &mut C) -> Self::Acquiring
         ensures { acquires self.old connection.old result connection.new self.new };
 
-    /// Goes on with a connection's preparation.
+    /// Polls the preparation of a connection.
     fn poll_acquire(
         &mut self,
         connection: &mut C,
@@ -88,7 +88,7 @@ pub trait Opener<C, E> {
         ensures { acquire_answers self.old connection.old acquiring.old moment result connection.new
             acquiring.new self.new };
 
-    /// Ends a preparation, which is dropped.
+    /// Ends a preparation and drops it.
     fn end_acquire(&mut self, acquiring: Self::Acquiring)
         ensures { ends_acquire self.old acquiring self.new };
 

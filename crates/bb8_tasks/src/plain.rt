@@ -1,4 +1,4 @@
-//! The plain state of a pool as a home of tasks, and of its driver and reaper.
+//! A pool's plain state as the home of its tasks, driver and reaper.
 ghost use Rattle.bb8_core.specs.StateView.{Steps};
 ghost use Rattle.bb8_tasks.specs.Homes.{TaskStepsBy};
 

@@ -1,4 +1,4 @@
-//! The task that opens the connection of one approval, and its poll.
+//! The task that opens the connection of one approval, and its polls.
 ghost use Rattle.std.specs.Prelude.{◌≡◌};
 ghost use Rattle.std.specs.Duration.{as_nanos};
 ghost use Rattle.bb8_tasks.specs.Dues.{poll_due};
@@ -14,56 +14,57 @@ use futures::task::Poll;
 use std::mem;
 use std::time::Duration;
 
-/// What a poll of a replenishing answers.
+/// The result of a poll of a task.
 #[derive(Drop, Debug, PartialEq, Eq)]
 pub enum ReplenishAnswer<E> {
-    /// The task goes on, and asks to be polled again.
+    /// In progress; poll again.
     Pending,
-    /// A try failed with this error, and the task tries again later.
+    /// A try failed with this error. The task tries again later.
     Retrying(E),
-    /// The last try failed with this error: the approval was given back, and the task ended.
+    /// The last try failed with this error. The approval was given back, and the task has ended.
     Failed(E),
-    /// The connection is the pool's, and the task ended.
+    /// The connection was added to the pool, and the task has ended.
     Entered,
-    /// No handle was alive when the connection came: it was dropped, and the task ended.
+    /// The connection was opened too late: it had been retired, or no handle was alive. It was
+    /// dropped, an approval for a waiter was asked for, and the task has ended.
     Late,
-    /// The approval was given back, or was not known any more, and the task ended; or it had ended
-    /// before.
+    /// The approval was given back or was no longer known, and the task has ended; or it had ended
+    /// before this poll.
     GivenBack,
 }
 
-/// The tries of a replenishing so far.
+/// The tries of a task so far.
 #[derive(Clone, Copy, Debug)]
 pub struct Tries {
-    /// The moment of the first one.
+    /// The moment of the first try.
     pub start: Moment,
-    /// How many failed. It stays at the greatest number.
+    /// The number of failed tries. It saturates.
     pub failures: u32,
 }
 
-/// Where a replenishing stands between its polls. It cannot be let go but by name.
+/// The stage of a task between its polls. It cannot be dropped implicitly.
 pub enum ReplenishStage<C, V, A> {
-    /// It was not polled yet.
+    /// Not polled yet.
     Start,
-    /// A connection is being opened.
+    /// Connecting.
     Connecting(Tries, V),
-    /// The connection is open, and is being prepared.
+    /// The connection is open and is being prepared by the customizer.
     Acquiring(Tries, C, A),
-    /// A try failed. The next one is due at this moment, or never.
+    /// A try failed. The next one is due at this moment; if None, never.
     Sleeping(Tries, Option<Moment>),
-    /// It ended.
+    /// The task has ended.
     Done,
 }
 
-/// What a poll answers, and where it leaves the task.
+/// The result of a poll, and the stage after it.
 pub struct ReplenishStep<C, V, A, E> {
-    /// The answer.
+    /// The result.
     pub answer: ReplenishAnswer<E>,
-    /// The stage then.
+    /// The stage after the poll.
     pub stage: ReplenishStage<C, V, A>,
 }
 
-/// What the rows of one poll are given: two settings, the approval and the effective moment.
+/// The inputs of one poll: two settings, the approval and the effective moment.
 #[derive(Clone, Copy)]
 struct PollInput {
     timeout: Duration,
@@ -72,7 +73,7 @@ struct PollInput {
     moment: Moment,
 }
 
-/// The moment that lies so far after another. None, and so never, where it is past the greatest
+/// Returns the moment that is `span` after `moment`; None (never) if it exceeds the greatest
 /// moment.
 fn moment_after(moment: Moment, span: Duration) -> Option<Moment>
     ensures { IsDue moment (as_nanos span) result }
@@ -81,7 +82,7 @@ fn moment_after(moment: Moment, span: Duration) -> Option<Moment>
     Some(Moment(moment.0.checked_add(nanos)?))
 }
 
-/// The tries after one more failure.
+/// Counts one more failure.
 fn one_more(tries: Tries) -> Tries
     ensures { result ≡ failed_once_more tries }
 {
@@ -91,7 +92,7 @@ fn one_more(tries: Tries) -> Tries
     }
 }
 
-/// A row's answer, and the stage in which it leaves the task.
+/// Returns this result and stage as one value.
 fn leaves<C, V, A, E>(
     answer: ReplenishAnswer<E>,
     stage: ReplenishStage<C, V, A>,
@@ -102,7 +103,7 @@ fn leaves<C, V, A, E>(
     ReplenishStep { answer, stage }
 }
 
-/// Lets go what a task holds.
+/// Ends what is in progress, then drops the connection, if the stage has one.
 fn let_go<C, E, X: Opener<C, E>>(
     pool: &mut X,
     stage: ReplenishStage<C, X::Connecting, X::Acquiring>,
@@ -136,7 +137,7 @@ impl<C, V, A> ReplenishStage<C, V, A> {
 }
 
 impl PollInput {
-    /// A failure.
+    /// Handles a failed try: gives the approval back after the last one, else schedules the next.
     fn fail<C, V, A, E, X: Home<C>>(
         self,
         pool: &mut X,
@@ -159,7 +160,8 @@ impl PollInput {
         )
     }
 
-    /// The connection is entered.
+    /// Adds the connection to the pool. If it comes too late, it is dropped, and then the home is
+    /// asked to grant approvals for waiters, which have lost this one.
     fn enter<C, E, X: Home<C> + Opener<C, E>>(
         self,
         pool: &mut X,
@@ -172,6 +174,7 @@ impl PollInput {
             Ok(OpenedAnswer::Entered(_)) => leaves(ReplenishAnswer::Entered, ReplenishStage::Done),
             Ok(OpenedAnswer::Late(connection)) => {
                 pool.let_go(connection);
+                let _ = pool.ask(self.moment);
                 leaves(ReplenishAnswer::Late, ReplenishStage::Done)
             }
             Err(connection) => {
@@ -181,7 +184,7 @@ impl PollInput {
         }
     }
 
-    /// The preparation is polled.
+    /// Polls the preparation of an open connection.
     fn acquire<C, E, X: Home<C> + Opener<C, E>>(
         self,
         pool: &mut X,
@@ -209,7 +212,7 @@ impl PollInput {
         }
     }
 
-    /// The opening is polled.
+    /// Polls the connection attempt.
     fn connect<C, E, X: Home<C> + Opener<C, E>>(
         self,
         pool: &mut X,
@@ -236,7 +239,7 @@ impl PollInput {
         }
     }
 
-    /// An opening is begun.
+    /// Begins a connection attempt and polls it.
     fn begin<C, E, X: Home<C> + Opener<C, E>>(
         self,
         pool: &mut X,
@@ -249,7 +252,7 @@ impl PollInput {
         self.connect(pool, tries, connecting)
     }
 
-    /// The row of the task's stage, where a handle is alive.
+    /// Makes the poll that belongs to the stage. A handle is alive.
     fn advance<C, E, X: Home<C> + Opener<C, E>>(
         self,
         pool: &mut X,
@@ -290,7 +293,7 @@ impl PollInput {
         }
     }
 
-    /// What a task does after its look.
+    /// Makes the poll after its look at the home. If no handle is alive, the task is cancelled.
     fn proceed<C, E, X: Home<C> + Opener<C, E>>(
         self,
         pool: &mut X,
@@ -309,11 +312,11 @@ impl PollInput {
     }
 }
 
-/// The opening of the connection of an approval: a `C` is a connection, a `V` one that is being
-/// opened, an `A` a preparation. Upstream's is a spawned task.
+/// The task that opens the connection of one approval: `C` is the connection, `V` a connection
+/// attempt, `A` a preparation. bb8's is a spawned task.
 ///
-/// It does nothing until it is polled. It cannot be dropped but by `give_back`, as its approval
-/// goes back to its home.
+/// It does nothing until it is polled. It cannot be dropped implicitly: `give_back` ends it, so
+/// that its approval is given back to its home.
 pub struct Replenish<C, V, A> {
     approval: Key,
     latest: Moment,
@@ -321,7 +324,7 @@ pub struct Replenish<C, V, A> {
 }
 
 impl<C, V, A> Replenish<C, V, A> {
-    /// A task for an approval, which was not polled yet.
+    /// Returns a task for an approval. It was not polled yet.
     pub fn new(approval: Key) -> Self
         ensures { result ≡ fresh approval }
     {
@@ -332,7 +335,7 @@ impl<C, V, A> Replenish<C, V, A> {
         }
     }
 
-    /// Puts another stage in the place of one that has ended.
+    /// Sets the stage; the old one has ended.
     fn stand(&mut self, stage: ReplenishStage<C, V, A>)
         requires { self.old.stage ≡ IsDone }
         ensures { self.new ≡ record {
@@ -348,12 +351,12 @@ impl<C, V, A> Replenish<C, V, A> {
         }
     }
 
-    /// One poll of the task over a home, at a reading `at` of the clock.
+    /// Polls the task once over a home, at a clock reading `at`.
     ///
-    /// It looks at the home first, and begins one opening at most. A try that failed is made again
-    /// later, where `retry_connection` is set and no more than the `connection_timeout` has passed
-    /// since the first one; else its approval is given back. After an answer other than `Pending`
-    /// and `Retrying` each poll answers `GivenBack`, calls nothing and changes nothing.
+    /// It looks at the home first, and begins at most one connection attempt. A failed try is
+    /// repeated later if `retry_connection` is set and at most `connection_timeout` has passed
+    /// since the first try; otherwise the approval is given back. After a result other than
+    /// `Pending` and `Retrying` each poll returns `GivenBack`, makes no call and changes nothing.
     pub fn poll<E, X: Home<C> + Opener<C, E, Connecting = V, Acquiring = A>>(
         &mut self,
         at: Moment,
@@ -381,8 +384,7 @@ impl<C, V, A> Replenish<C, V, A> {
         answer
     }
 
-    /// When the task is to be polled: a time that has passed where that is at once, and None where
-    /// it is never.
+    /// Returns when to poll the task next: a moment in the past means at once, None means never.
     pub fn next_due(&self) -> Option<Moment>
         ensures { result ≡ poll_due self.now.stage }
     {
@@ -395,7 +397,7 @@ impl<C, V, A> Replenish<C, V, A> {
         }
     }
 
-    /// Lets a task go that has ended.
+    /// Drops a task that has ended.
     pub(crate) fn finish(self)
         requires { self.stage ≡ IsDone }
     {
@@ -410,8 +412,8 @@ impl<C, V, A> Replenish<C, V, A> {
         }
     }
 
-    /// Lets the task go, at a reading `at` of the clock: where it has not ended, what it holds is
-    /// dropped, and its approval given back.
+    /// Cancels the task at a clock reading `at`. If it has not ended, its connection attempt or
+    /// connection is dropped and its approval given back.
     pub fn give_back<E, X: Home<C> + Opener<C, E, Connecting = V, Acquiring = A>>(
         self,
         at: Moment,

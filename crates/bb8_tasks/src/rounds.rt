@@ -1,21 +1,21 @@
-//! How a round of tasks goes on at a failure, and where it leads.
+//! What a round of tasks does when a task fails, and its result.
 
-/// What a round does at a task whose last try failed.
+/// What a round does when a task's last try failed.
 #[derive(Clone, Copy, Debug, PartialEq, Eq)]
 pub enum OnFailure {
-    /// It polls no further task, and tells the error.
+    /// Stop: poll no further task, and return the error.
     Stop,
-    /// It hands the error to the sink, and goes on.
+    /// Pass the error to the sink, and go on.
     GoOn,
 }
 
-/// Where a round leads that stops at the first failure: a `T` is a list of tasks. It cannot be let
-/// go but by name.
+/// The result of a round that stops at the first failure. `T` is a list of tasks. It has no
+/// implicit drop.
 pub enum Round<T, E> {
-    /// A task failed with this error, and all others were let go.
+    /// A task failed with this error, and all others were cancelled.
     Failed(E),
     /// No task is left.
     Complete,
-    /// These go on.
+    /// These tasks are not done yet.
     Going(T),
 }

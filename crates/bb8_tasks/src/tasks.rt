@@ -17,7 +17,7 @@ use std::alloc::Global;
 use std::collections::VecDeque;
 use std::marker::Model;
 
-/// The earlier of two moments, of which None is never.
+/// Returns the earlier of two moments. None is never.
 fn earlier(one: Option<Moment>, other: Option<Moment>) -> Option<Moment>
     ensures { result ≡ earlier one other }
 {
@@ -28,10 +28,10 @@ fn earlier(one: Option<Moment>, other: Option<Moment>) -> Option<Moment>
     }
 }
 
-/// Tasks, in the order in which their approvals were claimed. Upstream spawns each by itself.
+/// A list of tasks, in the order in which their approvals were claimed. bb8 spawns each separately.
 ///
-/// They cannot be dropped but by `give_back`, as their approvals go back to their home. Contracts
-/// see them as the list of the tasks.
+/// It cannot be dropped implicitly: `give_back` ends it, so that the tasks' approvals are given
+/// back to their home. Contracts see the list of the tasks.
 pub struct Tasks<C, V, A> {
     queue: VecDeque<Replenish<C, V, A>>,
 }
@@ -46,7 +46,7 @@ impl<C, V, A> Model for Tasks<C, V, A> {
 }
 
 impl<C, V, A> Tasks<C, V, A> {
-    /// No tasks.
+    /// Returns an empty list.
     pub fn new(alloc: Global) -> Self
         ensures { result ≡ [] }
     {
@@ -55,11 +55,11 @@ impl<C, V, A> Tasks<C, V, A> {
         }
     }
 
-    /// A task for each of `count` claimed approvals, whose numbers are those from `first` on; none
-    /// was polled yet. It fails where memory for them is refused.
+    /// Returns a task for each of `count` claimed approvals, numbered from `first` on; none was
+    /// polled yet. Returns `Memory` if memory for them is refused.
     ///
-    /// Where the approvals stand is guessed, as in a pool that has just begun. A wrong guess costs
-    /// a search and changes no answer.
+    /// The table indexes of the approvals are guessed, as in a new pool. A wrong guess costs a
+    /// search and changes no result.
     pub fn for_approvals(alloc: Global, first: u64, count: u32) -> Result<Self, Memory>
         requires { first + count < 2 ^ 64 }
         ensures { IfOk result (λ tasks. AreFor first count tasks) }
@@ -77,21 +77,21 @@ impl<C, V, A> Tasks<C, V, A> {
         Ok(Tasks { queue })
     }
 
-    /// How many they are.
+    /// Returns the number of tasks.
     pub fn len(&self) -> usize
         ensures { result ≡ length self.now }
     {
         self.queue.len()
     }
 
-    /// Whether there is none.
+    /// Whether there is no task.
     pub fn is_empty(&self) -> bool
         ensures { result ≡ true ↔ (self.now ≡ []) }
     {
         self.queue.is_empty()
     }
 
-    /// The earliest of a moment and those at which the tasks are to be polled; None is never.
+    /// Returns the earliest of `tick` and the moments at which tasks are due. None is never.
     pub fn next_due(&self, tick: Option<Moment>) -> Option<Moment>
         ensures { result ≡ earliest tick self.now }
     {
@@ -102,8 +102,8 @@ impl<C, V, A> Tasks<C, V, A> {
         due
     }
 
-    /// Claims an approval at its home, and takes on its task. The place for the task is made first:
-    /// where memory for it is refused, no approval is claimed.
+    /// Claims an approval at its home and adds its task. Memory for the task is reserved first: if
+    /// it is refused, no approval is claimed.
     pub fn claim<H: Home<C>>(&mut self, at: Moment, home: &mut H) -> Result<ClaimAnswer, Memory>
         ensures claimed { IfOk result (λ answer. H.steps home.old at (Claims answer) home.new) }
         ensures task { IfOk result (λ answer. TakesTaskOn answer self.old self.new) }
@@ -119,12 +119,11 @@ impl<C, V, A> Tasks<C, V, A> {
         Ok(answer)
     }
 
-    /// Polls each task once, in their order, at a reading `at` of the clock. Those that end are
-    /// gone.
+    /// Polls each task once, in order, at a clock reading `at`, and removes those that end.
     ///
-    /// The error of a try that is made again goes to the sink, and so does that of a last try where
-    /// `on_failure` says so; else the round stops with that error, polls no further task, and keeps
-    /// those.
+    /// The error of a try that is repeated goes to the sink. So does the error of a last try, if
+    /// `on_failure` is `GoOn`. Otherwise the round stops and returns that error; the remaining
+    /// tasks are kept unpolled.
     fn poll_until<E, X: Home<C> + Opener<C, E, Connecting = V, Acquiring = A>>(
         &mut self,
         at: Moment,
@@ -144,7 +143,8 @@ impl<C, V, A> Tasks<C, V, A> {
         stopped
     }
 
-    /// The first task's turn in a round that stopped with an error, or goes on.
+    /// Takes the first task's turn in a round: polls it, or only moves it back if the round
+    /// stopped.
     fn turn<E, X: Home<C> + Opener<C, E, Connecting = V, Acquiring = A>>(
         &mut self,
         at: Moment,
@@ -195,8 +195,7 @@ impl<C, V, A> Tasks<C, V, A> {
         }
     }
 
-    /// Lets each task go, in their order, so that the approval of each that has not ended is given
-    /// back.
+    /// Cancels each task in order, and gives back the approval of each that has not ended.
     pub fn give_back<E, X: Home<C> + Opener<C, E, Connecting = V, Acquiring = A>>(
         self,
         at: Moment,
@@ -211,7 +210,7 @@ impl<C, V, A> Tasks<C, V, A> {
         queue.destroy_empty();
     }
 
-    /// As `give_back`, at a reading of the clock.
+    /// Reads the clock, and cancels the tasks as `give_back` does.
     pub fn let_go<E, X: Home<C> + Opener<C, E, Connecting = V, Acquiring = A>>(self, pool: &mut X)
         ensures { AtReading X.tells (λ at. LetsGoEach (LetsGo X.Home X.Opener at) self)
             pool.old pool.new }
@@ -220,8 +219,8 @@ impl<C, V, A> Tasks<C, V, A> {
         self.give_back(at, pool);
     }
 
-    /// A round of polls at a reading of the clock, which stops at the first failure of a last try,
-    /// and then lets all other tasks go.
+    /// Reads the clock and polls the tasks until the first failure of a last try. On such a failure
+    /// it cancels all other tasks.
     pub fn round<E, X: Home<C> + Opener<C, E, Connecting = V, Acquiring = A>>(
         mut self,
         pool: &mut X,
@@ -247,7 +246,7 @@ impl<C, V, A> Tasks<C, V, A> {
         }
     }
 
-    /// Ends where no task is left.
+    /// Drops an empty list.
     fn finish(self)
         requires { self ≡ [] }
     {
@@ -255,8 +254,7 @@ impl<C, V, A> Tasks<C, V, A> {
         queue.destroy_empty();
     }
 
-    /// A round of polls that goes on after each failure: each task is polled once, and each error
-    /// goes to the sink.
+    /// Polls each task once, and goes on after failures: each error goes to the sink.
     #[tactic(auto, using(crate::proofs::Sweeps::polls_each))]
     pub fn poll_each<E, X: Home<C> + Opener<C, E, Connecting = V, Acquiring = A>>(
         &mut self,

@@ -1,18 +1,18 @@
-//! How long a task waits after a failed try.
+//! The back-off: how long a task waits after a failed try.
 ghost use Rattle.std.specs.Prelude.{◌≡◌};
 ghost use Rattle.std.specs.Duration.{as_nanos};
 ghost use Rattle.bb8_ledger.specs.Waits.{wait};
 
 use std::time::Duration;
 
-/// 200 milliseconds in nanoseconds: half of the first wait.
+/// 200 milliseconds in nanoseconds, half of the first wait.
 const HALF_FIRST: u128 = 200_000_000;
 
-/// From this failure on the wait is half the timeout, whatever the timeout is.
+/// From this failure on the wait is half the timeout, for every timeout.
 const LONGEST: u32 = 66;
 
-/// How long a task waits after its k-th failure, k from 1: twice as long as after the one before,
-/// from 400 milliseconds on, and at most half the timeout. As upstream.
+/// Returns the wait after the k-th failure (k from 1): 400 milliseconds at first, then twice the
+/// wait before, and at most half the timeout. As bb8.
 pub fn wait_after(k: u32, timeout: Duration) -> Duration
     ensures { as_nanos result ≡ wait (as_nanos timeout) k }
 {

@@ -11,7 +11,7 @@ use bb8_blocking::Blocking;
 use std::io;
 use std::process::ExitCode;
 
-/// How many threads share the pool.
+/// The number of threads that share the pool.
 const THREADS: usize = 4;
 
 fn main(rt: HostRuntime) -> io::Result<ExitCode> {

@@ -1,4 +1,4 @@
-//! A server that is set as a test goes on.
+//! A server that a test configures as it goes on.
 ghost use Rattle.std.specs.Prelude.{◌≡◌, IfOk};
 ghost use Rattle.bb8.specs.Settings.{default_settings};
 
@@ -13,16 +13,16 @@ use std::{fmt, thread};
 /// One second in nanoseconds.
 pub const SECOND: u64 = 1_000_000_000;
 
-/// As often as is asked.
+/// An unlimited number of times.
 pub const ALWAYS: u64 = u64::MAX;
 
-/// At this stage calls outside wait for nobody.
+/// The stage in which no callback waits.
 pub const OPEN: u64 = 0;
 
-/// The next one waits.
+/// The stage in which the next callback waits.
 pub const ARMED: u64 = 1;
 
-/// One waits until the stage is another.
+/// The stage in which a callback waits for another stage.
 pub const WAITING: u64 = 2;
 
 /// How often a thread looks before it gives up.
@@ -35,7 +35,7 @@ pub struct Number {
 }
 
 impl Number {
-    /// This number.
+    /// Returns a `Number` with this value.
     pub fn new(value: u64) -> Number {
         Number {
             value: AtomicU64::new(value),
@@ -50,12 +50,12 @@ impl Number {
         self.value.store(value, Ordering::SeqCst);
     }
 
-    /// One more, and what it is then.
+    /// Adds one, and returns the new value.
     pub fn count(&self) -> u64 {
         self.value.fetch_add(1, Ordering::SeqCst).saturating_add(1)
     }
 
-    /// Whether it comes to be this, or another, within so many looks.
+    /// Whether the value becomes `value` (or, if not `is_it`, another one) within `LOOKS` looks.
     pub fn comes_to(&self, value: u64, is_it: bool) -> bool {
         for _ in 0..LOOKS {
             if (self.get() == value) == is_it {
@@ -66,7 +66,7 @@ impl Number {
         false
     }
 
-    /// Whether there is one left; then it is taken, unless they are as many as are asked for.
+    /// Takes one, and returns whether there was one. `ALWAYS` never decreases.
     fn take_one(&self) -> bool {
         let left = self.get();
         if left != 0 && left != ALWAYS {
@@ -76,14 +76,14 @@ impl Number {
     }
 }
 
-/// What comes of each poll of an opening, or of a check.
+/// The result of each poll of an attempt or a check.
 #[derive(Clone, Copy, Debug, PartialEq, Eq)]
 pub enum Course {
-    /// It is ready and Ok.
+    /// Ready and Ok.
     Passes,
-    /// It is pending.
+    /// Pending.
     Lasts,
-    /// It fails.
+    /// An error.
     Fails,
 }
 
@@ -94,7 +94,7 @@ pub struct Switch {
 }
 
 impl Switch {
-    /// It stands at `Passes`.
+    /// Returns a switch at `Passes`.
     fn new() -> Switch {
         Switch {
             course: Number::new(0),
@@ -118,37 +118,37 @@ impl Switch {
     }
 }
 
-/// How a server answers, and what it has counted. A test and its pool share it.
+/// How a server replies, and what it has counted. A test and its pool share it.
 #[derive(Drop)]
 pub struct Board {
-    /// `ARMED` where the next poll of an opening is to wait. It fails where it waits too long.
+    /// `ARMED` if the next poll of an attempt is to wait. It fails if it waits too long.
     pub stage: Number,
-    /// Before this moment, in nanoseconds of the pool's clock, each opening is pending.
+    /// Before this moment, in nanoseconds of the pool's clock, each attempt is pending.
     pub ready: Number,
-    /// What comes of openings.
+    /// The course of attempts.
     pub opening: Switch,
-    /// How many openings pass, where they do; further ones fail.
+    /// How many attempts pass; later ones fail.
     pub opens: Number,
-    /// How many openings fail before that.
+    /// How many attempts fail before that.
     pub fails: Number,
-    /// What comes of checks.
+    /// The course of checks.
     pub check: Switch,
     /// How often a connection is found broken.
     pub breaks: Number,
-    /// How many openings were begun.
+    /// How many attempts were begun.
     pub begun: Number,
-    /// How many connections were made, and how many dropped.
+    /// How many connections were made, and how many were dropped.
     pub made: Number,
     pub closed: Number,
-    /// How often each of the first fifteen was dropped: a hexadecimal digit each, the last one for
-    /// the first.
+    /// How often each of the first fifteen was dropped: a hexadecimal digit each, the last digit
+    /// for the first one.
     drops: Number,
     /// How many errors the sink has taken.
     pub errors: Number,
 }
 
 impl Board {
-    /// A server all of whose openings and checks pass, and whose connections are never broken.
+    /// Returns a server whose attempts and checks all pass, and whose connections are never broken.
     pub fn new(alloc: Global) -> Result<Arc<Board, Global>, Memory> {
         let board = Board {
             stage: Number::new(OPEN),
@@ -167,7 +167,7 @@ impl Board {
         Ok(Arc::new(alloc, board)?)
     }
 
-    /// Whether each connection that was made was dropped, once.
+    /// Whether each connection that was made was dropped once.
     pub fn is_each_dropped_once(&self) -> bool {
         let mut once: u64 = 0;
         for _ in 0..self.made.get() {
@@ -177,7 +177,7 @@ impl Board {
     }
 }
 
-/// A server that answers as this board says.
+/// Returns a server that replies as this board says.
 pub fn server_on(board: &Arc<Board, Global>) -> Result<Server, Memory> {
     Ok(Server {
         board: Arc::try_clone(board)?,
@@ -187,10 +187,10 @@ pub fn server_on(board: &Arc<Board, Global>) -> Result<Server, Memory> {
 /// A builder of pools of a server's connections.
 pub type ServerBuilder = Builder<Server, Errors>;
 
-/// A pool of a server's connections by a clock of this type.
+/// A pool of a server's connections, with a clock of this type.
 pub type ServerPool<K, R, L> = Pool<Server, Errors, NopCustomizer, K, R, L>;
 
-/// A builder with the defaults, whose pools' errors are counted on the board.
+/// Returns a builder with the defaults, whose pools' errors are counted on the board.
 pub fn builder_on(board: &Arc<Board, Global>) -> Result<ServerBuilder, Memory>
     ensures { IfOk result (λ builder. builder.settings ≡ default_settings) }
 {
@@ -199,7 +199,7 @@ pub fn builder_on(board: &Arc<Board, Global>) -> Result<ServerBuilder, Memory>
     }))
 }
 
-/// A connection of this number that no opening brought.
+/// Returns a connection of this number, made without an attempt.
 pub fn connection_on(board: &Arc<Board, Global>, number: u64) -> Result<ServerConnection, Memory> {
     let shared = Arc::try_clone(board)?;
     let mut digit: u64 = 1;
@@ -218,13 +218,13 @@ pub fn connection_on(board: &Arc<Board, Global>, number: u64) -> Result<ServerCo
 
 /// A connection, which counts its drop.
 pub struct ServerConnection {
-    /// Which opening brought it, from 1 on, or what a test calls it.
+    /// The number of its attempt, from 1 on, or one that a test gives it.
     pub number: u64,
-    /// How many checks of it were begun.
+    /// How many of its checks were begun.
     pub checks: u64,
-    /// 0, or what a customizer made of it.
+    /// 0, or a number that a customizer set.
     pub field: u64,
-    /// Whether it is found broken, besides as often as the board says.
+    /// Whether it is found broken, besides the board's `breaks`.
     pub is_broken: bool,
     digit: u64,
     board: Arc<Board, Global>,
@@ -245,7 +245,7 @@ impl Drop for ServerConnection {
     }
 }
 
-/// The error of a server: an opening of this number failed, or, of number 0, a check.
+/// The error of a server: the attempt of this number failed, or, if 0, a check.
 #[derive(Clone, Copy, Debug, PartialEq, Eq)]
 pub struct Refused(pub u64);
 
@@ -257,7 +257,7 @@ impl fmt::Display for Refused {
 
 impl Error for Refused {}
 
-/// Answers as its board says.
+/// Replies as its board says.
 #[derive(Drop)]
 pub struct Server {
     board: Arc<Board, Global>,
@@ -333,7 +333,7 @@ impl ErrorSink<Refused> for Errors {
     }
 }
 
-/// A gate that does not pause: of a driver's run one turn is made.
+/// A gate that ends a driver's run after one turn.
 #[derive(Clone, Copy)]
 pub struct OneTurn;
 

@@ -1,8 +1,7 @@
-//! A pool as a trial meets it: calls of which nothing is known.
+//! A pool as tests use it: calls without clauses.
 //!
-//! A test asserts what it finds, and proves nothing of it. So its body is generic over a handle
-//! whose calls have no clauses, and meets none of the contracts of a live pool. Those are met once,
-//! here.
+//! A test asserts what it finds, and proves nothing. So its body is generic over a handle whose
+//! calls have no clauses, and meets none of a live pool's contracts. Those are met here, once.
 
 use bb8::building::Building;
 use bb8::dedicated::DedicatedFuture;
@@ -15,36 +14,36 @@ use futures::test::MockTask;
 use std::ops::DerefMut;
 use std::sync::Wait;
 
-/// What a poll of a get answers.
+/// The result of a poll of a get.
 pub type Polled<G, E> = Poll<Result<G, RunError<E>>>;
 
-/// How many connections a pool has, and how many are idle.
+/// Returns how many connections a pool has, and how many are idle.
 pub fn sizes(state: State) -> (u32, u32) {
     (state.connections, state.idle_connections)
 }
 
-/// Of two kinds of gets, or of guards: one by a handle, and one with a handle of its own.
+/// One of two kinds of gets or guards: without or with its own handle.
 #[derive(Drop)]
 pub enum Either<A: Drop, B: Drop> {
     Lent(A),
     Owned(B),
 }
 
-/// A handle of a pool of a manager's connections, by reference.
+/// A handle of a manager's pool, by reference.
 pub trait LentHandle<M: ManageConnection>: Copy {
     /// A get.
     type Get: Drop;
 
-    /// What it is served with.
+    /// Its guard.
     type Guard: DerefMut<Target = M::Connection> + Drop;
 
-    /// A get with a handle of its own.
+    /// A get with its own handle.
     type OwnedGet: Drop;
 
-    /// What that is served with.
+    /// Its guard.
     type OwnedGuard: DerefMut<Target = M::Connection> + Drop;
 
-    /// The opening of a connection that the pool does not count.
+    /// An attempt to open a connection that the pool does not count.
     type Dedicated: Drop;
 
     fn get(self) -> Self::Get;
@@ -53,7 +52,8 @@ pub trait LentHandle<M: ManageConnection>: Copy {
 
     fn cancel(self, get: Self::Get);
 
-    /// What a get is served with at its first poll. One that would wait is let go.
+    /// Returns the guard of a get that is served at its first poll. A get that would wait is
+    /// cancelled.
     fn lend(self, task: &MockTask) -> Option<Self::Guard>;
 
     fn try_get(self) -> Result<Option<Self::Guard>, RunError<M::Error>>;
@@ -158,7 +158,7 @@ impl<'a, G: Given<Runtime: Wait>, L: PoolParts> LentHandle<G::Manager> for &'a P
     }
 }
 
-/// A poll of a get of either kind.
+/// Polls a get of either kind.
 pub fn poll_either<M: ManageConnection, P: LentHandle<M>>(
     pool: P,
     task: &MockTask,
@@ -189,12 +189,12 @@ pub fn cancel_either<M: ManageConnection, P: LentHandle<M>>(
     }
 }
 
-/// A handle of a pool, for a trial that drops it and goes on. Its gets have a handle of their own.
+/// A handle of a pool, for a trial that drops it and goes on. Its gets have their own handle.
 pub trait OwnedHandle<M: ManageConnection>: Drop {
-    /// A get with a handle of its own.
+    /// A get with its own handle.
     type OwnedGet: Drop;
 
-    /// What that is served with.
+    /// Its guard.
     type OwnedGuard: DerefMut<Target = M::Connection> + Drop;
 
     fn get_owned(&self) -> Self::OwnedGet;
@@ -203,7 +203,7 @@ pub trait OwnedHandle<M: ManageConnection>: Drop {
 
     fn cancel_owned(get: Self::OwnedGet);
 
-    /// Whether a get that has no handle of its own is served at its first poll.
+    /// Whether a get without its own handle is served at its first poll.
     fn serves_at_once(&self, task: &MockTask) -> bool;
 
     fn add(&self, connection: M::Connection) -> Result<(), AddError<M::Connection>>;
@@ -249,9 +249,9 @@ impl<G: Given<Runtime: Wait>, L: PoolParts> OwnedHandle<G::Manager> for Pool<G, 
     }
 }
 
-/// The building of a pool.
+/// A pool that is being built.
 pub trait Unbuilt<M: ManageConnection>: Drop {
-    /// The pool that it answers.
+    /// The built pool.
     type Pool: OwnedHandle<M>;
 
     fn poll(&mut self, task: &MockTask) -> Polled<Self::Pool, M::Error>;

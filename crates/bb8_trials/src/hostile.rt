@@ -1,9 +1,9 @@
-//! Parts of a pool that change their answers at every call, and connections that are counted as
-//! they are made, held and dropped.
+//! User callbacks of a pool whose results change at every call, and connections that are counted
+//! when they are made, held and dropped.
 //!
-//! All answers come from one `RandomSource` with a fixed seed, so a run in one thread is the same
-//! each time. A `Harness` makes the parts of a pool, and its `Gauges` tell then what the pool has
-//! made of them. Nothing here starts a thread or takes a lock.
+//! All results come from one `RandomSource` with a fixed seed, so a run in one thread is the same
+//! each time. A `Harness` makes the callbacks of a pool, and its `Gauges` then show what the pool
+//! did with them. Nothing here starts a thread or acquires a lock.
 
 mod clock;
 mod connection;

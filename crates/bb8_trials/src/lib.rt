@@ -1,8 +1,8 @@
-//! What tests of live pools share, so that their bodies have neither a condition nor a proof.
+//! What tests of live pools share, so that their bodies need neither conditions nor proofs.
 //!
-//! A test meets its pool by a handle (`LentHandle`, `OwnedHandle`, `Unbuilt`) whose calls have no
-//! clauses. A `Server` opens, checks and breaks connections as its `Board` says, and the parts of
-//! `hostile` change their answers at every call.
+//! A test uses its pool by a handle (`LentHandle`, `OwnedHandle`, `Unbuilt`) whose calls have no
+//! clauses. A `Server` opens, checks and breaks connections as its `Board` says; the user callbacks
+//! of `hostile` change their results at every call.
 #![tactic(auto)]
 
 mod board;

@@ -1,11 +1,11 @@
--- What a pool tells of itself, in plain numbers.
+-- The statistics of a pool in plain numbers.
 use Rattle.std.specs.Prelude.{ℕ, ◌+◌, ◌-◌, refl}
 use Rattle.std.specs.Duration.{as_nanos}
 use Rattle.std.specs.Coded.{Coded, code_by, coded×, coded_ℕ}
 use Rattle.bb8_types.specs.declared.api.figures.Statistics.{Statistics}
 use Rattle.bb8_types.specs.declared.api.figures.State.{State}
 
--- How often each thing happened; the wait time in nanoseconds.
+-- The counts of what happened; the wait time in nanoseconds.
 pub record Counts : Type 0 where
   pub started : ℕ
   pub direct : ℕ
@@ -21,15 +21,15 @@ pub record Counts : Type 0 where
   pub retired : ℕ
   pub detached : ℕ
 
--- gets that were served or timed out
+-- the count of gets that were served or timed out
 abbrev pub completed : Counts → ℕ
 completed c = c.direct + c.waited + c.timed_out
 
--- gets that began and were neither served nor timed out nor cancelled
+-- the count of gets that began and were neither served nor timed out nor cancelled
 abbrev pub pending : Counts → ℕ
 pending c = c.started - completed c - c.cancelled
 
--- what a pool tells of itself
+-- the size and the statistics of a pool
 pub record Figures : Type 0 where
   pub connections : ℕ
   pub idle : ℕ
@@ -57,11 +57,11 @@ counts_of s = record {
 abbrev pub figures_of : State → Figures
 figures_of s = record { connections = s.connections; idle = s.idle_connections; counts = counts_of s.statistics }
 
--- nothing happened yet
+-- all counts at 0
 abbrev pub no_counts : Counts
 no_counts = record { started = 0; direct = 0; waited = 0; timed_out = 0; cancelled = 0; wait_time = 0; created = 0; broken = 0; invalid = 0; max_lifetime = 0; idle_timeout = 0; retired = 0; detached = 0 }
 
--- the code that the toolchain asks of a model's value
+-- the encoding that the toolchain requires for a model's value
 abbrev pub counts_code : Coded Counts
 counts_code =
     code_by

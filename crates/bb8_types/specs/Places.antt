@@ -1,4 +1,4 @@
--- Where a record or a get stands, what is read off its place, and which one of a line goes out.
+-- The states of records and gets, what follows from them, and which element of a queue goes out.
 use Rattle.std.specs.Prelude.{ℕ, ◌-◌, ◌/◌, Bool, true, false, ◌&&◌, ◌||◌, not, cond, eqb, leb, ltb, List, length, slice_get, Option, Some, None}
 use Rattle.bb8_types.specs.declared.standing.Place.{Place}
 use Rattle.bb8_types.specs.declared.standing.Place.TheVariants.{Unclaimed, Claimed, Idle, Held, Guarded}
@@ -12,87 +12,87 @@ use Rattle.bb8_types.specs.declared.api.configuration.QueueStrategy.{QueueStrate
 use Rattle.bb8_types.specs.declared.api.configuration.QueueStrategy.TheVariants.{Fifo, Lifo}
 use Rattle.bb8_types.specs.Settings.{Settings}
 
--- ---- where a record stands
+-- ---- the state of a record
 
--- a connection
+-- whether it is a connection
 abbrev pub is_conn : {C : Type 0} → Place C → Bool
 is_conn Unclaimed = false
 is_conn Claimed = false
 is_conn _ = true
 
--- an approval that nobody claimed
+-- whether it is an approval that is not claimed
 abbrev pub is_unclaimed : {C : Type 0} → Place C → Bool
 is_unclaimed Unclaimed = true
 is_unclaimed _ = false
 
--- an approval that was claimed
+-- whether it is an approval that is claimed
 abbrev pub is_claimed : {C : Type 0} → Place C → Bool
 is_claimed Claimed = true
 is_claimed _ = false
 
--- a connection that nobody holds
+-- whether it is an idle connection
 abbrev pub is_idle : {C : Type 0} → Place C → Bool
 is_idle (Idle c) = true
 is_idle _ = false
 
--- held by a guard
+-- whether a guard holds it
 abbrev pub is_guarded : {C : Type 0} → Place C → Bool
 is_guarded Guarded = true
 is_guarded _ = false
 
--- held by the get g
+-- whether the get g holds it
 abbrev pub is_held_by : {C : Type 0} → ℕ → Place C → Bool
 is_held_by g (Held h) = eqb g h
 is_held_by g _ = false
 
--- an open approval
+-- whether it is an open approval
 abbrev pub is_approval : {C : Type 0} → Place C → Bool
 is_approval p = not (is_conn p)
 
--- a connection that a get or a guard holds
+-- whether it is checked out: held by a get or a guard
 abbrev pub is_out : {C : Type 0} → Place C → Bool
 is_out (Held g) = true
 is_out Guarded = true
 is_out _ = false
 
--- where a connection stands that somebody holds
+-- the state of a connection with this holder
 abbrev pub place_with : {C : Type 0} → Holder → Place C
 place_with Guard = Guarded
 place_with (Get g) = Held g
 
--- where a record stands that enters or ends: a claimed approval where one is opened, a connection
--- that is out otherwise
+-- whether a record of this state can enter or end: a claimed approval if one is opened, otherwise a
+-- checked-out connection
 abbrev pub comes_from : {C : Type 0} → Bool → Place C → Bool
 comes_from opening p = cond opening (is_claimed p) (is_out p)
 
--- whether a record stands in a place that passes a test
+-- whether a record's state passes a test
 abbrev pub stands : {C : Type 0} → (Place C → Bool) → Option (Standing C) → Bool
 stands test None = false
 stands test (Some s) = test s.place
 
--- ---- where a get stands
+-- ---- the state of a get
 
--- it waits and was not notified
+-- whether it waits and was not notified
 abbrev pub is_unnotified : GetPlace → Bool
 is_unnotified (Waiting notified) = not notified
 is_unnotified _ = false
 
--- it waits and was notified
+-- whether it waits and was notified
 abbrev pub is_notified : GetPlace → Bool
 is_notified (Waiting notified) = notified
 is_notified _ = false
 
--- the connection that it holds
+-- the number of the connection that it holds
 abbrev pub held_in : GetPlace → Option ℕ
 held_in (Holding k) = Some k
 held_in _ = None
 
--- whether a get stands in a place that passes a test
+-- whether a get's state passes a test
 abbrev pub gets_stand : (GetPlace → Bool) → Option Getting → Bool
 gets_stand test None = false
 gets_stand test (Some g) = test g.place
 
--- the connection that a get holds
+-- the number of the connection that a get holds
 abbrev pub holds : Option Getting → Option ℕ
 holds None = None
 holds (Some g) = held_in g.place
@@ -102,88 +102,88 @@ abbrev pub first_wait_of : Option Getting → Option ℕ
 first_wait_of None = None
 first_wait_of (Some g) = g.first_wait
 
--- a get that may try
+-- whether it may try
 abbrev pub is_trying : GetPlace → Bool
 is_trying (Holding k) = false
 is_trying _ = true
 
 -- ---- time
 
--- so long a limit is reached, where it is set
+-- whether a span reaches a limit; never if none is set
 abbrev pub is_past : Option ℕ → ℕ → Bool
 is_past None span = false
 is_past (Some limit) span = leb limit span
 
--- a connection of this birth lives too long at a moment
+-- whether a connection with this birth lives too long at the moment `now`
 abbrev pub is_expired : Option ℕ → ℕ → ℕ → Bool
 is_expired lifetime now birth = is_past lifetime (now - birth)
 
--- a connection that became idle at this moment is checked before it is served at that one: where
--- the check is on, and so long has passed
+-- whether a connection that became idle at `entered` must be checked before it is served at `now`:
+-- if the check is on, and test_after has passed
 abbrev pub is_checked : Settings → ℕ → ℕ → Bool
 is_checked config now entered = config.test_on_check_out && leb config.test_after (now - entered)
 
--- a connection whose check was cut off counts as broken if an idle one may be served unchecked: it
--- would count as fresh
+-- whether a connection whose check was cut off counts as broken: also if idle ones may be served
+-- unchecked, as it would pass for a fresh one
 abbrev pub is_doubtful : Settings → Bool → Bool
 is_doubtful config broken = broken || ltb 0 config.test_after
 
--- the whole microseconds since a moment, where there is one
+-- the whole microseconds since a moment, 0 if there is none
 abbrev pub micros_since : ℕ → Option ℕ → ℕ
 micros_since now None = 0
 micros_since now (Some first) = (now - first) / 1000
 
 module _ {C : Type 0} where
-  -- an idle record that is idle too long at a moment
+  -- whether a record is idle, and for too long at the moment `now`
   abbrev pub idles_out : Settings → ℕ → Option (Standing C) → Bool
   idles_out config now None = false
   idles_out config now (Some s) = is_idle s.place && is_past config.idle_timeout (now - s.entered)
 
-  -- an idle record that is expired at a moment
+  -- whether a record is idle, and lives too long at the moment `now`
   abbrev pub lives_out : Settings → ℕ → Option (Standing C) → Bool
   lives_out config now None = false
   lives_out config now (Some s) = is_idle s.place && is_expired config.max_lifetime now s.birth
 
-  -- what the last handle ends: the idle records and the unclaimed ones
+  -- whether the last handle ends a record: if it is idle, or an approval that is not claimed
   abbrev pub is_left : Option (Standing C) → Bool
   is_left None = false
   is_left (Some s) = is_idle s.place || is_unclaimed s.place
 
--- ---- in another place
+-- ---- with another state
 
 module _ {C : Type 0} where
-  -- a record at another place; birth and entry stay
+  -- the record with another state; birth and entry stay
   abbrev pub with_place : Place C → Standing C → Standing C
   with_place p s = record s { place = p }
 
-  -- the birth of a record, or 0 where it has ended
+  -- the birth of a record, 0 if it has ended
   abbrev pub birth_in : Option (Standing C) → ℕ
   birth_in None = 0
   birth_in (Some s) = s.birth
 
-  -- when a record last became idle, or 0 where it has ended
+  -- when a record last became idle, 0 if it has ended
   abbrev pub entered_in : Option (Standing C) → ℕ
   entered_in None = 0
   entered_in (Some s) = s.entered
 
--- a get in another place
+-- the get with another state
 abbrev pub get_with_place : GetPlace → Getting → Getting
 get_with_place p g = record g { place = p }
 
--- the moment of the first wait
+-- the moment of the first wait, `now` if there was none
 abbrev pub first_or : ℕ → Option ℕ → ℕ
 first_or now None = now
 first_or now (Some first) = first
 
--- a get that waits now, and since its first wait if it waited before
+-- the get waiting from now on; its first wait stays if it waited before
 abbrev pub get_in_wait : ℕ → Getting → Getting
 get_in_wait now g = record { place = Waiting false; first_wait = Some (first_or now g.first_wait) }
 
--- where the one that goes out stands in a line of so many
+-- the position that goes out, in a queue of `many`
 abbrev pub first_place : QueueStrategy → ℕ → ℕ
 first_place Fifo many = 0
 first_place Lifo many = many - 1
 
--- first idle: of the idle numbers in the order of entry, the one that goes out
+-- the number that goes out, of the idle ones in the order in which they became idle
 abbrev pub first_of : QueueStrategy → List ℕ → Option ℕ
 first_of strategy idle = slice_get idle (first_place strategy (length idle))

@@ -1,4 +1,4 @@
--- The configuration, with its spans of time as whole nanoseconds.
+-- The configuration, with durations in whole nanoseconds.
 use Rattle.std.specs.Prelude.{ℕ, zero, Bool, true, Option, Some, None, is_some, ltb, leb, not, ◌&&◌, ◌||◌, refl, ◌≡◌}
 use Rattle.std.specs.Option.{option_map}
 use Rattle.std.specs.Duration.{as_nanos}
@@ -7,7 +7,7 @@ use Rattle.bb8_types.specs.declared.api.configuration.Config.{Config}
 use Rattle.bb8_types.specs.declared.api.configuration.QueueStrategy.{QueueStrategy}
 use Rattle.bb8_types.specs.declared.api.configuration.QueueStrategy.TheVariants.{Fifo, Lifo}
 
--- a configuration as plain numbers; spans of time in whole nanoseconds
+-- a configuration as plain numbers, with durations in whole nanoseconds
 pub record Settings : Type 0 where
   pub max_size : ℕ
   pub min_idle : Option ℕ
@@ -20,7 +20,7 @@ pub record Settings : Type 0 where
   pub reaper_rate : ℕ
   pub queue_strategy : QueueStrategy
 
--- what a configuration says
+-- the plain numbers of a configuration
 abbrev pub settings_of : Config → Settings
 settings_of c = record {
   max_size = c.max_size;
@@ -35,7 +35,7 @@ settings_of c = record {
   queue_strategy = c.queue_strategy;
 }
 
--- what holds where nothing is set
+-- the defaults
 abbrev pub default_settings : Settings
 default_settings = record {
   max_size = 10;
@@ -50,23 +50,23 @@ default_settings = record {
   queue_strategy = Fifo;
 }
 
--- a limit is not set, or not to zero
+-- whether a limit is not set, or not to zero
 abbrev pub is_unset_or_above_zero : Option ℕ → Bool
 is_unset_or_above_zero None = true
 is_unset_or_above_zero (Some n) = ltb 0 n
 
--- a number is not set, or at most another
+-- whether a number is not set, or at most another
 abbrev pub is_unset_or_at_most : Option ℕ → ℕ → Bool
 is_unset_or_at_most None most = true
 is_unset_or_at_most (Some n) most = leb n most
 
--- a pool can hold to this
+-- whether a pool accepts this configuration
 abbrev pub is_lawful : Settings → Bool
 is_lawful s =
     ltb 0 s.max_size && (is_unset_or_at_most s.min_idle s.max_size && (is_unset_or_above_zero s.max_lifetime && (is_unset_or_above_zero s.idle_timeout && (ltb 0 s.connection_timeout
     && (not (is_some s.max_lifetime || is_some s.idle_timeout) || ltb 0 s.reaper_rate)))))
 
--- codes that the toolchain asks of a model's value
+-- the encodings that the toolchain requires for a model's value
 abbrev strategy_code : Coded QueueStrategy
 strategy_code = code_by ℕ coded_ℕ to back again
   where
@@ -86,7 +86,7 @@ strategy_code = code_by ℕ coded_ℕ to back again
 abbrev Stored : Type 0
 Stored = ℕ × (Option ℕ × (Bool × (ℕ × (Option ℕ × (Option ℕ × (ℕ × (Bool × (ℕ × QueueStrategy))))))))
 
--- the code of a configuration
+-- the encoding of a configuration
 abbrev pub settings_code : Coded Settings
 settings_code =
     code_by

@@ -15,11 +15,11 @@ use Rattle.slots.specs.declared.slot.Slot.{Slot}
 use Rattle.slots.specs.declared.slot.SlotManager.{SlotManager}
 
 module _ {S Z K R L A : Type 0} {s : SinkOf S Infallible} {z : CustomizerOf Z Slot Infallible A} {k : ClockOf K} {l : PartsOf L} where
-  -- the guard gives its connection back
+  -- the guard returns its connection
   abbrev pub GivesBack : PooledConnection (These SlotManager S Z K R) L SlotManager S Z K R Slot Infallible ⊤ ⊤ A manager.ghosts infallible.ghosts s z k l → Type 0
   GivesBack guard = ReturnsBy (ticket_of guard) (connection_of guard)
 
-  -- a guard as those of the list gives its connection back
+  -- a guard like those of the list returns its connection
   abbrev pub GivesOneBack : Guards (These SlotManager S Z K R) L SlotManager S Z K R Slot Infallible ⊤ ⊤ A manager.ghosts infallible.ghosts s z k l → Type 0
   GivesOneBack guards =
       (guard : PooledConnection (These SlotManager S Z K R) L SlotManager S Z K R Slot Infallible ⊤ ⊤ A manager.ghosts infallible.ghosts s z k l) × GivesBack guard

@@ -1,5 +1,5 @@
--- What callers see of a runner: its jobs, its next id, its pool and its driver; and what its calls
--- do to them.
+-- The contract's view of a runner (its jobs, its next id, its pool and its driver), and the effect
+-- of its calls on them.
 use Rattle.std.specs.Prelude.{◌≡◌, ℕ, List, ⊤}
 use Rattle.std.specs.Arc.{arc_value}
 use Rattle.std.specs.contracts.prelude.InfallibleDebug.TheImpl as infallible
@@ -35,7 +35,7 @@ module _ (S Z K R L A : Type 0) (s : SinkOf S Infallible) (z : CustomizerOf Z Sl
   abbrev pub SlotPool : Type 0
   SlotPool = Pool (These SlotManager S Z K R) L SlotManager S Z K R Slot Infallible ⊤ ⊤ A manager.ghosts infallible.ghosts s z k l
 
-  -- a driver of one
+  -- a driver of such a pool
   abbrev pub SlotDriver : Type 0
   SlotDriver = Driver (These SlotManager S Z K R) L SlotManager S Z K R Slot Infallible ⊤ ⊤ A manager.ghosts infallible.ghosts s z k l
 
@@ -44,7 +44,7 @@ module _ (S Z K R L A : Type 0) (s : SinkOf S Infallible) (z : CustomizerOf Z Sl
   SlotGet = GetFuture (These SlotManager S Z K R) L SlotManager S Z K R Slot Infallible ⊤ ⊤ A manager.ghosts infallible.ghosts s z k l
 
 module _ {J S Z K R L O A : Type 0} {j : JobOf J O} {s : SinkOf S Infallible} {z : CustomizerOf Z Slot Infallible A} {k : ClockOf K} {l : PartsOf L} where
-  -- the jobs of a runner whose outcomes were not taken, in the order of their ids
+  -- the jobs of a runner whose outcomes were not taken, in the order of ids
   abbrev pub jobs_in : Runner J S Z K R L O A j s z k l → List (JobEntry J O (SlotGet S Z K R L A s z k l))
   jobs_in runner = runner.entries.items
 
@@ -52,7 +52,7 @@ module _ {J S Z K R L O A : Type 0} {j : JobOf J O} {s : SinkOf S Infallible} {z
   abbrev pub running_in : Runner J S Z K R L O A j s z k l → ℕ
   running_in runner = running (jobs_in runner)
 
-  -- the id that the next job gets
+  -- the id of the next job
   abbrev pub next_id : Runner J S Z K R L O A j s z k l → ℕ
   next_id runner = runner.next
 
@@ -64,32 +64,32 @@ module _ {J S Z K R L O A : Type 0} {j : JobOf J O} {s : SinkOf S Infallible} {z
   abbrev pub driver_of : Runner J S Z K R L O A j s z k l → SlotDriver S Z K R L A s z k l
   driver_of runner = runner.driver
 
-  -- a runner is let go: the get of each job that waits is cancelled, each of its guards gives its
-  -- connection back, and its driver is let go
+  -- a runner is dropped: the get of each waiting job is cancelled, each of its guards returns its
+  -- connection, and its driver is dropped
   abbrev pub LetsRunnerGo : Runner J S Z K R L O A j s z k l → Type 0
   LetsRunnerGo runner =
       EachGet CancelsGet (jobs_in runner) × ReturnsEach runner.guards × OwnDropsTurning (arc_value runner.driver.shared) runner.driver.turning
 
-  -- how many jobs may run: as many as the pool may have connections
+  -- how many jobs may run: the pool's maximum of connections
   abbrev pub most_running : Runner J S Z K R L O A j s z k l → ℕ
   most_running runner = (settings_in (pool_of runner)).max_size
 
-  -- a job is taken on: it stands behind the others, under the next id, and waits by a get of the
-  -- pool that was not polled
+  -- a job is added: it is behind the others, with the next id, and waits, with a get of the pool
+  -- that was not polled
   abbrev pub TakesJobOn : Runner J S Z K R L O A j s z k l → J → Runner J S Z K R L O A j s z k l → Type 0
   TakesJobOn runner job runner' =
       AddsJob (λ get. (stage_of get ≡ Fresh) × IsOf get (pool_of runner)) (next_id runner) job (jobs_in runner) (jobs_in runner')
 
-  -- both runners have the same pool, and the same id for the next job
+  -- both runners have the same pool and the same next id
   abbrev pub AreAlike : Runner J S Z K R L O A j s z k l → Runner J S Z K R L O A j s z k l → Type 0
   AreAlike runner runner' = (pool_of runner' ≡ pool_of runner) × (next_id runner' ≡ next_id runner)
 
-  -- the driver makes a turn at a moment, and each job stands where it stood
+  -- the driver makes a turn at a moment, and the jobs do not change
   abbrev pub TurnsDriverOf : Runner J S Z K R L O A j s z k l → Moment → Runner J S Z K R L O A j s z k l → Type 0
   TurnsDriverOf runner moment runner' =
       ((turn : Turn) × TurnsDriver moment (driver_of runner) turn (driver_of runner')) × (jobs_in runner' ≡ jobs_in runner) × AreAlike runner runner'
 
-  -- each job makes a step at a moment, so many end, and the driver is as it was
+  -- each job makes a step at a moment, this many end, and the driver does not change
   abbrev pub StepsJobsOf : Runner J S Z K R L O A j s z k l → Moment → ℕ → Runner J S Z K R L O A j s z k l → Type 0
   StepsJobsOf runner moment ended runner' =
       StepsEach j.polls PollsGet GivesBack moment (jobs_in runner) (jobs_in runner') ended × (driver_of runner' ≡ driver_of runner)

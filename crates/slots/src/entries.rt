@@ -1,4 +1,4 @@
-//! The jobs of a runner, each with its id and its place.
+//! The jobs of a runner, each with its id and its state.
 ghost use Rattle.std.specs.Prelude.{◌≡◌, ◌<◌, ℕ, true, Some, None, IfSome, IfNone, OnSome};
 ghost use Rattle.std.specs.List.{slice_index_or, remove};
 ghost use Rattle.std.specs.VecDeque.{deque_len};
@@ -7,18 +7,18 @@ ghost use Rattle.slots.specs.Entries.{is_ended, phase_in, phase_of, place_of, ou
 use crate::job::{Outcome, Phase};
 use std::collections::VecDeque;
 
-/// Where a job stands, with what it needs there: `J` is a job, `O` what it comes to, `G` a get.
+/// The state of a job: `J` is a job, `O` its output, `G` a get.
 #[derive(Drop)]
 pub(crate) enum JobPlace<J, O, G> {
-    /// It waits for what its get answers.
+    /// It waits for the result of its get.
     Waiting(J, G),
     /// It runs, and one of the guards is held for it.
     Running(J),
-    /// It has ended so.
+    /// It has ended with this outcome.
     Ended(Outcome<O>),
 }
 
-/// A job under its id.
+/// A job with its id.
 #[derive(Drop)]
 pub(crate) struct JobEntry<J, O, G> {
     pub(crate) id: u64,
@@ -26,7 +26,7 @@ pub(crate) struct JobEntry<J, O, G> {
 }
 
 impl<J, O, G> JobPlace<J, O, G> {
-    /// The phase of a job that stands so.
+    /// Returns the phase of a job in this state.
     pub(crate) fn phase(&self) -> Phase
         ensures { result ≡ phase_in self.now }
     {
@@ -37,7 +37,7 @@ impl<J, O, G> JobPlace<J, O, G> {
         }
     }
 
-    /// Whether a job that stands so has ended.
+    /// Returns whether a job in this state has ended.
     pub(crate) fn is_ended(&self) -> bool
         ensures { result ≡ is_ended self.now }
     {
@@ -48,7 +48,7 @@ impl<J, O, G> JobPlace<J, O, G> {
     }
 }
 
-/// The index of the job of an id, if there is one.
+/// Returns the index of the job with an id, None if there is none.
 pub(crate) fn index_of<J, O, G>(entries: &VecDeque<JobEntry<J, O, G>>, id: u64) -> Option<usize>
     ensures within { IfSome result (λ i. i < deque_len entries.now) }
     ensures place { IfSome result (λ i. (e : _) → e ≡ slice_index_or entries.now.items i e
@@ -64,7 +64,7 @@ pub(crate) fn index_of<J, O, G>(entries: &VecDeque<JobEntry<J, O, G>>, id: u64) 
     None
 }
 
-/// The phase of the job of an id, if there is one.
+/// Returns the phase of the job with an id, None if there is none.
 pub(crate) fn phase_at<J, O, G>(entries: &VecDeque<JobEntry<J, O, G>>, id: u64) -> Option<Phase>
     ensures { result ≡ phase_of (place_of id entries.now.items) }
 {
@@ -74,7 +74,8 @@ pub(crate) fn phase_at<J, O, G>(entries: &VecDeque<JobEntry<J, O, G>>, id: u64) 
     }
 }
 
-/// Takes the job of an id out, where it has ended, and tells how.
+/// Removes the job with an id and returns its outcome. Returns None if it has not ended or there is
+/// none.
 pub(crate) fn take_ended<J: Drop, O: Drop, G: Drop>(
     entries: &mut VecDeque<JobEntry<J, O, G>>,
     id: u64,

@@ -1,4 +1,4 @@
-//! Jobs, where they stand, and how they end.
+//! Jobs, their phases and their outcomes.
 ghost use Rattle.std.specs.Prelude.{⊤};
 ghost use Rattle.futures.specs.declared.task.Poll.{Poll as PollOf};
 ghost use Rattle.bb8_types.specs.declared.api.moments.Moment.{Moment as MomentOf};
@@ -7,38 +7,37 @@ use bb8::{Moment, RunError};
 use futures::task::Poll;
 use std::convert::Infallible;
 
-/// Work that is done in polls, each of which is made while a guard of the pool is held for it.
+/// Work done in polls. Each poll is made while a guard of the pool is held for it.
 pub trait Job: Drop {
-    /// What the job comes to.
+    /// The output of the job.
     type Out: Drop;
 
-    // Holds of a job, the moment of a poll of it, each answer that the poll may give, and the job
-    // then. The implementer's choice; one that is left out allows everything.
+    // Relates a job and the moment of a poll to each result of that poll, and to the job after it.
+    // The implementer chooses it; an omitted one allows everything.
     ghost polls: { Self → MomentOf → PollOf Self.Out → Self → Type 0 } = { λ _ _ _ _. ⊤ };
 
-    /// Goes on with the job, at the moment `now`, in nanoseconds of the pool's clock: what it comes
-    /// to once it is done, else pending. It is not polled again once it was ready.
+    /// Continues the job, at the moment `now`, in nanoseconds of the pool's clock. Returns the
+    /// output once it is done, else pending. It is not polled again after it was ready.
     fn poll(&mut self, now: Moment) -> Poll<Self::Out>
         ensures { polls self.old now result self.new };
 }
 
-/// How a job ended.
+/// The outcome of a job.
 #[derive(Clone, Debug, Drop)]
 pub enum Outcome<O> {
-    /// It came to this.
+    /// It was done, with this output.
     Done(O),
-    /// It never ran, as its get was refused so: `TimedOut` where no connection came in time;
-    /// `Memory` where memory was refused, to the get or to the keeping of its guard; `Exhausted`
-    /// where the pool had no number left for the get.
+    /// It never ran. `TimedOut`: no connection came in time. `Memory`: memory was refused, for the
+    /// get or to keep its guard. `Exhausted`: the pool had no number left for the get.
     Refused(RunError<Infallible>),
 }
 
-/// Where a job stands between two turns.
+/// The phase of a job between two turns.
 #[derive(Clone, Copy, Debug, PartialEq, Eq)]
 pub enum Phase {
     /// It waits for a connection.
     Waiting,
-    /// It holds a guard, and is polled once at each turn.
+    /// It holds a guard, and is polled once in each turn.
     Running,
     /// It has ended, and its outcome was not taken yet.
     Ended,

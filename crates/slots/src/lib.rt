@@ -1,13 +1,12 @@
-//! A runner of jobs over a pool: each job holds a guard of the pool while it runs, so no more run
-//! at a time than the pool's `max_size`.
+//! A runner of jobs on a pool: each job holds a guard of the pool while it runs, so at most the
+//! pool's `max_size` run at a time.
 //!
-//! It stands on the public contract of `bb8` alone, and shows how a bounded executor, a queue of
-//! jobs or a pool of workers is proved on it. The connections are slots, in which nothing is; a
-//! guard is the leave to run. Jobs are submitted (`RunnerCalls::submit`), go on at each turn
-//! (`turn`), and what they come to is taken by their ids (`take`). The behaviour is our own choice,
-//! since upstream has no such thing.
+//! It uses the public contract of `bb8` alone. It shows how a bounded executor, a job queue or a
+//! worker pool can be proved on it. The connections are empty slots; a guard is permission to run.
+//! Jobs are submitted (`RunnerCalls::submit`) and continue in each turn (`turn`). Their outcomes
+//! are taken by id (`take`). bb8 has no such thing, so the behaviour is our own choice.
 //!
-//! This program is whole. In `crates.txt` it stands on `bb8`, `futures` and `slots`:
+//! This program is complete. In `crates.txt` it depends on `bb8`, `futures` and `slots`:
 //!
 //! ```text
 //! #![tactic(auto)]
@@ -24,7 +23,7 @@
 //! use std::sync::Wait;
 //! use std::sync::ledger::Blank;
 //!
-//! /// The sum of the numbers below `end`, one of them a poll.
+//! /// Adds the numbers below `end`, one in each poll.
 //! #[derive(Drop)]
 //! struct Sum {
 //!     next: u64,
@@ -47,7 +46,7 @@
 //!
 //! type SlotPool<R, L> = Pool<SlotManager, NopErrorSink, NopCustomizer, SetClock, R, L>;
 //!
-//! /// The sum of what ten jobs come to, of which two run at a time.
+//! /// Returns the sum of the outputs of ten jobs, of which two run at a time.
 //! fn run<
 //!     R: Wait + RandomSource + AllocGlobal + Copy + Send + Sync + Drop + 'static,
 //!     L: PoolParts,
@@ -93,9 +92,9 @@
 //! }
 //! ```
 //!
-//! It prints 120. One proof file of its own, `proofs/main/Invariants.antt`, says the name and the
-//! number of the pool's parts and its settings (`ghosts-run-L-Ledger` and `ghosts-run-L-Parts`), as
-//! in `bb8_live_bench`.
+//! It prints 120. It has one proof file, `proofs/main/Invariants.antt`, with the name and the
+//! number of the pool's permits and its settings (`ghosts-run-L-Ledger` and `ghosts-run-L-Parts`),
+//! as in `bb8_live_bench`.
 #![tactic(auto)]
 
 mod entries;

@@ -1,4 +1,4 @@
-//! A runner of jobs over a pool of slots.
+//! A runner of jobs on a pool of slots.
 ghost use Rattle.std.specs.Prelude.{◌≡◌, ◌≤◌, ◌+◌, ℕ, [], None, IfOk, OnOk, IfErr, OnErr, OnSome};
 ghost use Rattle.futures.specs.Task.{Keeps};
 ghost use Rattle.bb8_types.specs.declared.api.moments.Moment.{Moment as MomentOf};
@@ -21,12 +21,12 @@ use std::collections::VecDeque;
 use std::convert::Infallible;
 use std::sync::Wait;
 
-/// Runs jobs, each while it holds a connection of the pool, so that no more run at a time than the
-/// pool's `max_size`.
+/// Runs jobs, each while it holds a connection of the pool, so at most the pool's `max_size` run at
+/// a time.
 ///
-/// Jobs are submitted, go on at each turn, and their outcomes are taken by their ids. When a runner
-/// is dropped, the gets of jobs that wait are cancelled and the guards of those that run are given
-/// back, for which it may wait for the pool's lock.
+/// Jobs are submitted, continue in each turn, and their outcomes are taken by id. When a runner is
+/// dropped, the gets of waiting jobs are cancelled and the guards of running ones are returned; for
+/// this it may wait for the pool's lock.
 pub struct Runner<
     'a,
     J: Job,
@@ -79,44 +79,45 @@ impl<
     }
 }
 
-/// The two parts of a turn, which makes them in this order.
+/// The two parts of a turn, in this order.
 pub trait TurnParts {
-    // Holds before the driver's turn at a moment, and after it.
+    // Relates the runner before the driver's turn at a moment, and after it.
     ghost turns: { Self → MomentOf → Self → Type 0 };
 
-    // Holds before the steps of all jobs at a moment, of how many end by them, and after them.
+    // Relates the runner before the steps of all jobs at a moment, the count of jobs that end, and
+    // the runner after them.
     ghost steps: { Self → MomentOf → ℕ → Self → Type 0 };
 
-    /// The pool's driver makes a turn.
+    /// Makes a turn of the pool's driver.
     fn turn_driver(&mut self, moment: Moment)
         ensures { turns self.old moment self.new };
 
-    /// Each job that has not ended has one step. How many jobs ended.
+    /// Makes one step of each job that has not ended, and returns how many jobs ended.
     fn step_jobs(&mut self, moment: Moment, cx: &mut Context<'_>) -> u64
         ensures steps { steps self.old moment result self.new }
         ensures kept { Keeps cx.old cx.new };
 }
 
-/// The calls of a runner, as methods of an impl, so that code that a thread runs can make them.
+/// The methods of a runner. (A trait because of *trait-for-threads* in docs/TOOLCHAIN.md.)
 pub trait RunnerCalls: TurnParts {
-    /// What is run.
+    /// The type of jobs.
     type Job;
 
-    /// How a job ends.
+    /// The outcome of a job.
     type Outcome;
 
-    /// Takes a job on, and answers its id: ids count from 0. Where memory for it is refused, or
-    /// each id below the greatest u64 was given, the job comes back and nothing changes.
+    /// Adds a job and returns its id; ids count from 0. If memory is refused, or each id below the
+    /// greatest u64 was given, `Err` has the job and nothing changes.
     fn submit(&mut self, job: Self::Job) -> Result<u64, Self::Job>;
 
-    /// One turn at a moment, in nanoseconds of the pool's clock; it may wait for the pool's lock.
-    /// How many jobs ended.
+    /// Makes a turn at a moment, in nanoseconds of the pool's clock, and returns how many jobs
+    /// ended. It may wait for the pool's lock.
     ///
-    /// The pool's driver makes a turn first. Then each job that has not ended has one step, in the
-    /// order of the ids. The get of a job that waits is polled: where it is served the job runs
-    /// from the next turn on, where it fails the job has ended with its error, and where there is
-    /// no memory to keep the guard, that is dropped and the job has ended with `Memory`. A job that
-    /// runs is polled once: where it is ready it has ended, and a guard is dropped at once.
+    /// First the pool's driver makes a turn. Then each job that has not ended makes one step, in
+    /// the order of ids. If it waits, its get is polled: if that is served, the job runs from the
+    /// next turn on; if it fails, the job ends with the error; if there is no memory to keep the
+    /// guard, the guard is dropped and the job ends with `Memory`. If it runs, it is polled once:
+    /// if it is ready, it has ended, and a guard is dropped at once.
     final fn turn(&mut self, moment: Moment, cx: &mut Context<'_>) -> u64
         ensures chain { (between : Self) × Self.turns self.old moment between
             × Self.steps between moment result self.new }
@@ -126,14 +127,15 @@ pub trait RunnerCalls: TurnParts {
         self.step_jobs(moment, cx)
     }
 
-    /// Where the job of an id stands: None where no such id was given, or its outcome was taken.
+    /// Returns the phase of the job with an id. None if no such id was given, or its outcome was
+    /// taken.
     fn phase(&self, id: u64) -> Option<Phase>;
 
-    /// How many jobs run.
+    /// Returns the count of running jobs.
     fn running(&self) -> u64;
 
-    /// How the job of an id has ended, once: the job is then forgotten. None where it has not
-    /// ended, no such id was given, or its outcome was taken.
+    /// Returns the outcome of the job with an id, once: the job is then forgotten. None if it has
+    /// not ended, no such id was given, or its outcome was taken.
     fn take(&mut self, id: u64) -> Option<Self::Outcome>;
 }
 
@@ -149,7 +151,7 @@ impl<
     ghost use Rattle.bb8.specs.Drivers.{IsDriverOf};
     ghost use Rattle.slots.specs.Runners.{driver_of, jobs_in, next_id, pool_of};
 
-    /// A runner of the pool that has no job yet, with a driver of the pool. It fails only where
+    /// Returns a runner on the pool without jobs, with a driver of the pool. Fails only if
     /// `Driver::new` does.
     pub fn new(alloc: Global, pool: &'a Pool<SlotManager, S, Z, K, R, L>) -> Result<Self, Memory>
         ensures pool { IfOk result (λ runner. pool_of runner ≡ pool.now) }

@@ -1,4 +1,4 @@
-//! Connections that are nothing but a right to run.
+//! Connections that are only permission to run.
 ghost use Rattle.std.specs.Prelude.{◌≡◌, Ok, false};
 ghost use Rattle.futures.specs.declared.task.Poll.TheVariants.{Ready};
 
@@ -6,11 +6,11 @@ use bb8::{ManageConnection, Moment};
 use futures::task::Poll;
 use std::convert::Infallible;
 
-/// A connection that has nothing in it: whoever holds its guard may run a job.
+/// An empty connection. The holder of its guard may run a job.
 #[derive(Clone, Copy, Debug, PartialEq, Eq)]
 pub struct Slot;
 
-/// Opens slots. Each is there, and passes its check, at the first poll, and none is ever broken.
+/// Opens slots. Each is open, and passes its check, at the first poll; none is ever broken.
 #[derive(Clone, Copy, Debug, PartialEq, Eq)]
 pub struct SlotManager;
 
@@ -31,10 +31,10 @@ impl ManageConnection for SlotManager {
 
     ghost breaks = { λ _ before broken after. (broken ≡ false) × (after ≡ before) };
 
-    /// Nothing is to be waited for.
+    /// Does nothing.
     fn connect(&self) {}
 
-    /// A slot, at once.
+    /// Returns a slot at once.
     fn poll_connect(
         &self,
         _connecting: &mut (),
@@ -43,10 +43,10 @@ impl ManageConnection for SlotManager {
         Poll::Ready(Ok(Slot))
     }
 
-    /// Nothing is to be waited for.
+    /// Does nothing.
     fn is_valid(&self, _slot: &mut Slot) {}
 
-    /// Ok, at once.
+    /// Returns Ok at once.
     fn poll_valid(
         &self,
         _slot: &mut Slot,
@@ -56,7 +56,7 @@ impl ManageConnection for SlotManager {
         Poll::Ready(Ok(()))
     }
 
-    /// No slot is broken.
+    /// Returns false.
     fn has_broken(&self, _slot: &mut Slot) -> bool {
         false
     }

@@ -25,24 +25,24 @@ pub(crate) type Get<'a, S, Z, K, R, L> = GetFuture<'a, SlotManager, S, Z, K, R, 
 /// The guards of slots.
 pub(crate) type SlotGuards<'a, S, Z, K, R, L> = Guards<'a, SlotManager, S, Z, K, R, L>;
 
-/// What a step made of a job.
+/// The result of a job's step.
 pub(crate) struct Stepped<J, O, G> {
-    /// Where it stands then.
+    /// The state after it.
     pub(crate) place: JobPlace<J, O, G>,
-    /// Whether it ended by it: 1 where it did, else 0.
+    /// 1 if the job ended in it, else 0.
     pub(crate) ended: u64,
 }
 
-/// The steps of a job beside the guards of all that run, as methods of an impl, so that methods of
-/// others can call them.
+/// The steps of one job, on the guards of all running ones. (A trait because of *trait-for-threads*
+/// in docs/TOOLCHAIN.md.)
 pub(crate) trait StepsOne<J, O, G> {
-    /// Polls a job that runs, once. Where it is ready, its guard is dropped at once.
+    /// Polls a running job once. If it is ready, its guard is dropped at once.
     fn step_job(&mut self, job: J, now: Moment) -> Stepped<J, O, G>;
 
-    /// Polls the get of a job that waits, once.
+    /// Polls the get of a waiting job once.
     fn step_get(&mut self, job: J, get: G, cx: &mut Context<'_>) -> Stepped<J, O, G>;
 
-    /// One step of a job that stands so.
+    /// Makes one step of a job in this state.
     fn step(
         &mut self,
         place: JobPlace<J, O, G>,

@@ -18,13 +18,13 @@ use std::collections::VecDeque;
 use std::convert::Infallible;
 use std::sync::Wait;
 
-/// The steps of all jobs beside the guards of those that run, as methods of an impl, so that
-/// methods of others can call them.
+/// The steps of all jobs, on the guards of the running ones. (A trait because of
+/// *trait-for-threads* in docs/TOOLCHAIN.md.)
 pub(crate) trait StepsAll<Q> {
-    /// One step of the first job, which goes to the back. How many jobs ended.
+    /// Makes one step of the first job, and moves it to the back. Returns how many jobs ended.
     fn step_first(&mut self, queue: &mut Q, now: Moment, cx: &mut Context<'_>) -> u64;
 
-    /// One step of each job, in their order. How many jobs ended.
+    /// Makes one step of each job, in their order. Returns how many jobs ended.
     fn step_each(&mut self, queue: &mut Q, now: Moment, cx: &mut Context<'_>) -> u64;
 }
 
@@ -81,7 +81,7 @@ impl<
         for _ in 0..count {
             ended += self.step_first(queue, now, cx);
         }
-        // the list tells that it has not passed its bound
+        // The call states that the list has not passed its bound.
         let _held = self.len();
         ended
     }

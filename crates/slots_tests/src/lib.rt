@@ -1,4 +1,4 @@
-//! Tests of runners of jobs over live pools, by public items alone.
+//! Tests of job runners over live pools, which use public items only.
 #![tactic(auto)]
 
 #[cfg(test)]

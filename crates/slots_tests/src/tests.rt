@@ -1,4 +1,4 @@
-//! What the tests share: outcomes that are compared.
+//! What the tests share: comparisons of outcomes.
 
 mod calls;
 mod refusals;
@@ -7,17 +7,17 @@ mod turns;
 use bb8::RunError;
 use slots::Outcome;
 
-/// Whether a job came to this number.
+/// Whether a job returned this number.
 fn came_to(outcome: Option<Outcome<u64>>, number: u64) -> bool {
     matches!(outcome, Some(Outcome::Done(out)) if out == number)
 }
 
-/// Whether a job was refused, as its get timed out.
+/// Whether a job was refused because its get timed out.
 fn timed_out(outcome: Option<Outcome<u64>>) -> bool {
     matches!(outcome, Some(Outcome::Refused(RunError::TimedOut)))
 }
 
-/// Whether a job was refused for want of memory.
+/// Whether a job was refused for lack of memory.
 fn lacked_memory(outcome: &Option<Outcome<u64>>) -> bool {
     matches!(outcome, Some(Outcome::Refused(RunError::Memory)))
 }

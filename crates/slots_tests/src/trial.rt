@@ -1,5 +1,4 @@
-//! The one place where a trial's pool of slots and its runner are built, and the pool's parts are
-//! laid out.
+//! Builds a trial's pool of slots, with its permits, and its runner, in this one place.
 ghost use Rattle.std.specs.Prelude.{◌≡◌, ◌<◌, true};
 ghost use Rattle.bb8.specs.Parts.{IsBlankOf};
 ghost use Rattle.bb8.specs.Settings.{is_lawful};
@@ -14,7 +13,7 @@ use slots::{Job, Outcome, Runner, RunnerCalls, SlotManager};
 use std::marker::Brand;
 use std::sync::ledger::Blank;
 
-/// A job that is ready at one of its polls, and comes to the number of that poll.
+/// A job that is ready at one of its polls, and returns the number of that poll.
 #[derive(Drop)]
 pub struct Count {
     polled: u64,
@@ -22,7 +21,7 @@ pub struct Count {
 }
 
 impl Count {
-    /// A job that is ready at its poll of this number.
+    /// Returns a job that is ready at its poll of this number.
     pub fn to(ready_at: u64) -> Count {
         Count {
             polled: 0,
@@ -64,7 +63,7 @@ impl<X: RunnerCalls<Job = Count, Outcome = Outcome<u64>> + Drop> CountRunner for
 /// The builder of a pool of slots.
 pub type SlotBuilder = Builder<SlotManager, NopErrorSink, NopCustomizer>;
 
-/// A builder of pools of so many slots, which check nothing.
+/// Returns a builder of pools of this many slots, with the check off.
 pub fn slots(max_size: u32) -> SlotBuilder
     requires { 0 < max_size }
 {
@@ -72,14 +71,13 @@ pub fn slots(max_size: u32) -> SlotBuilder
 }
 
 impl<R: Drop, X: CountRunner> Bench<R, X> {
-    /// A turn of the runner at a moment: how many jobs ended.
+    /// Makes a turn of the runner at a moment. Returns how many jobs ended.
     pub fn turn(&mut self, moment: u64) -> u64 {
         let Bench { runner, task, .. } = self;
         task.enter(|cx| runner.turn(Moment(moment), cx))
     }
 
-    /// Submits a job that is ready at its poll of this number, and tells whether its id is this
-    /// one.
+    /// Submits a job that is ready at its poll of this number, and returns whether it got this id.
     pub fn submits(&mut self, ready_at: u64, id: u64) -> bool {
         self.runner.submit(Count::to(ready_at)).ok() == Some(id)
     }
@@ -90,7 +88,7 @@ pub trait RunnerTrial<R: Runtime> {
     fn run<L: PoolParts, X: CountRunner>(self, pool: &SlotPool<R, L>, bench: Bench<R, X>);
 }
 
-/// A trial on a pool whose parts are named.
+/// Runs a trial on a pool with these permits.
 fn run_on<R: Runtime, L: PoolParts, T: RunnerTrial<R> + Drop>(
     rt: R,
     blank: Blank,
@@ -116,7 +114,7 @@ fn run_on<R: Runtime, L: PoolParts, T: RunnerTrial<R> + Drop>(
     Ok(())
 }
 
-/// Runs a trial on a pool of these settings and a runner of it, at the moment 0. None where the
+/// Runs a trial on a pool with these settings and a runner of it, at the moment 0. None if the
 /// settings are not lawful, or memory was refused.
 pub fn try_runner<R: Runtime, T: RunnerTrial<R> + Drop>(
     rt: R,

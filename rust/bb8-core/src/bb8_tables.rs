@@ -1,4 +1,4 @@
-//! Tables, lines and counters of a pool's state, which know no ledger.
+//! Tables, queues and counters of a pool's state. Nothing here depends on the ledger.
 
 pub mod closed;
 pub mod counters;
@@ -9,4 +9,4 @@ pub mod records;
 pub mod ring;
 mod table;
 
-pub use table::{Lendings, UncountedAccess};
+pub use table::{LatestLendings, Lendings, UncountedAccess};

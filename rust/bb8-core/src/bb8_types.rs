@@ -1,4 +1,4 @@
-//! Plain data of a pool: configuration, moments, figures, errors and traits, and the places of its
+//! Plain data of a pool: configuration, moments, statistics, errors, traits, and the states of its
 //! records and gets.
 
 pub mod api;

@@ -5,16 +5,17 @@ use crate::core::Checkout;
 use crate::errors::AddError;
 use crate::figures::State;
 use crate::managers::ManageConnection;
-use crate::pool::PoolInner;
+use crate::pool::{Owner, Shared};
 use std::fmt;
 use std::ops::{Deref, DerefMut};
+use std::sync::Arc;
 
 /// A handle to a pool. Its clones are handles to the same pool.
 ///
 /// Once the last handle and the last guard of [`Pool::get_owned`] are gone, the idle connections
 /// are closed. [`Pool::close`] closes the pool earlier.
 pub struct Pool<M: ManageConnection> {
-    pub(crate) inner: PoolInner<M>,
+    pub(crate) owner: Arc<Owner<M>>,
 }
 
 impl<M: ManageConnection> Pool<M> {
@@ -23,15 +24,14 @@ impl<M: ManageConnection> Pool<M> {
         Builder::new()
     }
 
-    /// Opens a connection that the pool does not track. The customizer prepares it as well.
+    /// Opens a connection that the pool does not track: no limit on size or age applies to it. The
+    /// customizer prepares it as well.
     ///
     /// # Errors
     ///
     /// The error of the manager or the customizer. The attempt is not retried.
     ///
     /// # Examples
-    ///
-    /// A subscription has a connection of its own, to which no limit on size or age applies:
     ///
     /// ```
     /// use bb8::{ManageConnection, Pool};
@@ -44,7 +44,7 @@ impl<M: ManageConnection> Pool<M> {
     /// # async fn subscribe<C>(_: &mut C) {}
     /// ```
     pub async fn dedicated_connection(&self) -> Result<M::Connection, M::Error> {
-        self.inner.connect().await
+        self.shared().connect().await
     }
 
     /// Adds a connection to the pool.
@@ -60,10 +60,7 @@ impl<M: ManageConnection> Pool<M> {
     /// use bb8::{AddError, ManageConnection, Pool};
     ///
     /// /// Returns the connection if the pool has no room for it.
-    /// fn hand_in<M: ManageConnection>(
-    ///     pool: &Pool<M>,
-    ///     conn: M::Connection,
-    /// ) -> Option<M::Connection> {
+    /// fn hand_in<C, M: ManageConnection<Connection = C>>(pool: &Pool<M>, conn: C) -> Option<C> {
     ///     match pool.add(conn) {
     ///         Ok(()) | Err(AddError::Broken(_)) => None,
     ///         Err(AddError::NoCapacity(conn) | AddError::Withheld(conn)) => Some(conn),
@@ -71,34 +68,32 @@ impl<M: ManageConnection> Pool<M> {
     /// }
     /// ```
     pub fn add(&self, conn: M::Connection) -> Result<(), AddError<M::Connection>> {
-        self.inner.add(conn)
+        self.shared().add(conn)
     }
 
-    /// Retires all connections that exist, as if all were past `max_lifetime`: idle ones are closed
-    /// now, checked-out ones when they are returned. An attempt in progress still brings its
-    /// connection, which is checked out once at most. Those that `min_idle` requires are opened
-    /// anew.
+    /// Retires all connections: idle ones are closed now, checked-out ones when they are returned,
+    /// and those of attempts in progress once they are open. So no get is handed an old connection
+    /// from then on. Exception: a get that is already checking one.
+    ///
+    /// Connections that `min_idle` requires, or that gets wait for, are opened anew, others when a
+    /// get needs them.
     ///
     /// It is for changes that only new connections see: other credentials, a restored database,
-    /// another server behind the same name. Requests in progress are not disturbed. Connections
-    /// that no get waits for are opened when they are needed.
+    /// another server behind the same name.
     ///
     /// If memory to list the idle connections is refused, nothing changes. In a closed pool it does
     /// nothing.
     ///
     /// # Panics
     ///
-    /// If the destructor of an idle connection panics; all are closed then, too.
+    /// If the destructor of an idle connection panics. All are closed then, too.
     ///
     /// # Examples
     ///
     /// ```
-    /// use bb8::Pool;
     /// # include!(concat!(env!("CARGO_MANIFEST_DIR"), "/tests/common/numbers.rs"));
-    /// # #[tokio::main]
-    /// # async fn main() {
-    ///
-    /// let pool = Pool::builder().build(Numbers::default()).await.unwrap();
+    /// # #[tokio::main] async fn main() {
+    /// let pool = bb8::Pool::builder().build(Numbers::default()).await.unwrap();
     /// let conn = pool.get().await.unwrap();
     /// pool.retire();
     /// assert_eq!(*conn, 0);
@@ -108,51 +103,46 @@ impl<M: ManageConnection> Pool<M> {
     /// # }
     /// ```
     pub fn retire(&self) {
-        self.inner.retire();
+        self.shared().retire();
     }
 
     /// Closes the pool for all its handles, and resolves once all its connections are dropped.
     ///
-    /// When it is first polled, waiting gets return [`RunError::Closed`], as every later get does.
-    /// Idle connections are dropped, and attempts in progress end. Checked-out connections are not
-    /// disturbed, and are dropped when they are returned. It waits for them, so call it without a
-    /// guard in the same task, or limit it by a timeout. If it is dropped, the pool stays closed.
-    ///
-    /// In the statistics, waiting gets that it ends count in `get_cancelled`; later ones count
-    /// nowhere.
+    /// When it is first polled, waiting gets return [`RunError::Closed`](crate::RunError::Closed)
+    /// and count in `get_cancelled`. Every later get returns it, too. Idle connections are dropped,
+    /// and attempts in progress end. Checked-out connections are dropped when they are returned. It
+    /// waits for them, so call it without a guard in the same task, or limit it by a timeout. If it
+    /// is dropped, the pool stays closed.
     ///
     /// # Panics
     ///
-    /// If the destructor of an idle connection panics; the pool is closed then, too.
+    /// If the destructor of an idle connection panics. The pool is closed then, too.
     ///
     /// # Examples
     ///
     /// ```
     /// use bb8::{Pool, RunError};
     /// # include!(concat!(env!("CARGO_MANIFEST_DIR"), "/tests/common/numbers.rs"));
-    /// # #[tokio::main]
-    /// # async fn main() {
-    ///
+    /// # #[tokio::main] async fn main() {
     /// let pool = Pool::builder().min_idle(1).build(Numbers::default()).await.unwrap();
     /// let conn = pool.get_owned().await.unwrap();
     /// let request = tokio::spawn(async move { *conn });
     /// pool.close().await; // it waits for the request
+    /// assert!(pool.is_closed());
     /// assert_eq!(pool.state().connections, 0);
     /// assert_eq!(pool.get().await.unwrap_err(), RunError::Closed);
     /// assert_eq!(request.await.unwrap(), 0);
     /// # }
     /// ```
-    ///
-    /// [`RunError::Closed`]: crate::RunError::Closed
     pub async fn close(&self) {
-        self.inner.close().await;
+        self.shared().close_and_wait().await;
     }
 
     /// Closes the pool as [`Pool::close`] does, but does not wait for its connections. It may be
     /// called outside of a runtime.
     ///
-    /// If memory to list the idle connections is refused, the pool stays open. Exception:
-    /// [`Pool::close`] then tries again after a millisecond.
+    /// If memory to list the idle connections is refused, the pool stays open, whereas
+    /// [`Pool::close`] tries again after a millisecond.
     ///
     /// # Panics
     ///
@@ -161,12 +151,9 @@ impl<M: ManageConnection> Pool<M> {
     /// # Examples
     ///
     /// ```
-    /// use bb8::Pool;
     /// # include!(concat!(env!("CARGO_MANIFEST_DIR"), "/tests/common/numbers.rs"));
-    /// # #[tokio::main]
-    /// # async fn main() {
-    ///
-    /// let pool = Pool::builder().build(Numbers::default()).await.unwrap();
+    /// # #[tokio::main] async fn main() {
+    /// let pool = bb8::Pool::builder().build(Numbers::default()).await.unwrap();
     /// let conn = pool.get().await.unwrap();
     /// pool.close_now();
     /// assert_eq!(pool.state().connections, 1);
@@ -175,7 +162,7 @@ impl<M: ManageConnection> Pool<M> {
     /// # }
     /// ```
     pub fn close_now(&self) {
-        self.inner.shared().close();
+        self.shared().close();
     }
 
     /// Returns whether the pool was closed by [`Pool::close`] or [`Pool::close_now`].
@@ -183,36 +170,38 @@ impl<M: ManageConnection> Pool<M> {
     /// # Examples
     ///
     /// ```
-    /// use bb8::Pool;
     /// # include!(concat!(env!("CARGO_MANIFEST_DIR"), "/tests/common/numbers.rs"));
-    /// # #[tokio::main]
-    /// # async fn main() {
-    ///
-    /// let pool = Pool::builder().build(Numbers::default()).await.unwrap();
-    /// assert!(!pool.is_closed());
+    /// # #[tokio::main] async fn main() {
+    /// let pool = bb8::Pool::builder().build(Numbers::default()).await.unwrap();
+    /// let other = pool.clone();
     /// pool.close().await;
-    /// assert!(pool.clone().is_closed());
+    /// assert!(other.is_closed());
     /// # }
     /// ```
     pub fn is_closed(&self) -> bool {
-        self.inner.shared().is_closed()
+        self.shared().is_closed()
     }
 
     /// Returns how many connections there are, and the statistics.
     pub fn state(&self) -> State {
-        self.inner.state()
+        self.shared().state()
     }
 
     /// Returns the settings of the pool.
     pub fn config(&self) -> Config {
-        Config::from(self.inner.settings())
+        Config::from(&self.shared().settings)
+    }
+
+    #[inline]
+    pub(crate) fn shared(&self) -> &Arc<Shared<M>> {
+        &self.owner.shared
     }
 }
 
 impl<M: ManageConnection> Clone for Pool<M> {
     fn clone(&self) -> Self {
         Pool {
-            inner: self.inner.clone(),
+            owner: self.owner.clone(),
         }
     }
 }
@@ -220,7 +209,7 @@ impl<M: ManageConnection> Clone for Pool<M> {
 impl<M: ManageConnection> fmt::Debug for Pool<M> {
     fn fmt(&self, f: &mut fmt::Formatter<'_>) -> fmt::Result {
         f.debug_struct("Pool")
-            .field("name", &self.inner.settings().name)
+            .field("name", &self.shared().settings.name)
             .field("state", &self.state())
             .field("config", &self.config())
             .finish()
@@ -229,8 +218,8 @@ impl<M: ManageConnection> fmt::Debug for Pool<M> {
 
 /// The pool of a guard.
 enum PoolRef<'a, M: ManageConnection> {
-    Borrowed(&'a PoolInner<M>),
-    Owned(PoolInner<M>),
+    Borrowed(&'a Arc<Owner<M>>),
+    Owned(Arc<Owner<M>>),
 }
 
 /// A checked-out connection. It is returned to the pool when this is dropped.
@@ -242,31 +231,26 @@ pub struct PooledConnection<'a, M: ManageConnection> {
 const HELD: &str = "a guard has its connection until it is dropped";
 
 impl<'a, M: ManageConnection> PooledConnection<'a, M> {
-    pub(crate) fn new(pool: &'a PoolInner<M>, checkout: Checkout<M::Connection>) -> Self {
+    pub(crate) fn new(pool: &'a Arc<Owner<M>>, checkout: Checkout<M::Connection>) -> Self {
         PooledConnection {
             pool: PoolRef::Borrowed(pool),
             checkout: Some(checkout),
         }
     }
 
-    /// Takes the connection out of the pool for good, and returns it. Its slot is free, so the pool
-    /// may open another one in its place.
+    /// Takes the connection out of the pool for good, and returns it. Its slot is free for another
+    /// one.
     ///
-    /// The pool forgets the connection: it counts in `connections_detached`, not as closed, no
-    /// limit on size or age applies to it, and [`on_release`] is not called. This is an associated
-    /// function, called as `PooledConnection::detach(conn)`, so that it hides no method of the
-    /// connection.
+    /// It counts in `connections_detached`, not as closed. No limit on size or age applies to it,
+    /// and the customizer's `on_release` is not called. This is an associated function, so that it
+    /// hides no method of the connection.
     ///
     /// # Examples
-    ///
-    /// A connection that becomes a subscription is used until its end:
     ///
     /// ```
     /// use bb8::{Pool, PooledConnection};
     /// # include!(concat!(env!("CARGO_MANIFEST_DIR"), "/tests/common/numbers.rs"));
-    /// # #[tokio::main]
-    /// # async fn main() {
-    ///
+    /// # #[tokio::main] async fn main() {
     /// let pool = Pool::builder().max_size(1).build(Numbers::default()).await.unwrap();
     /// let conn = pool.get().await.unwrap();
     /// let conn: u32 = PooledConnection::detach(conn);
@@ -274,16 +258,14 @@ impl<'a, M: ManageConnection> PooledConnection<'a, M> {
     /// assert_eq!(*pool.get().await.unwrap(), 1);
     /// # }
     /// ```
-    ///
-    /// [`on_release`]: crate::CustomizeConnection::on_release
     pub fn detach(mut this: Self) -> M::Connection {
         let checkout = this.checkout.take().expect(HELD);
-        this.pool().shared().detach(checkout)
+        this.pool().shared.detach(checkout)
     }
 
     /// The pool of the guard.
     #[inline]
-    fn pool(&self) -> &PoolInner<M> {
+    fn pool(&self) -> &Arc<Owner<M>> {
         match &self.pool {
             PoolRef::Borrowed(pool) => pool,
             PoolRef::Owned(pool) => pool,
@@ -326,7 +308,7 @@ impl<M: ManageConnection> Drop for PooledConnection<'_, M> {
     #[inline]
     fn drop(&mut self) {
         if let Some(checkout) = self.checkout.take() {
-            self.pool().put_back(checkout);
+            self.pool().shared.release(checkout);
         }
     }
 }

@@ -1,22 +1,15 @@
-//! Connections on the heap, in boxes for which memory can be refused.
-//!
-//! The core moves a connection at each step that checks it out or returns it. In a box it is moved
-//! by its address, so that a pair of `get` and return costs the same whatever its size.
+//! Connections on the heap, in boxes for which memory can be refused. The core moves a connection
+//! at each step: in a box the cost does not depend on its size.
 
 use std::marker::PhantomData;
 use std::ops::{Deref, DerefMut};
-#[cfg(feature = "tracing")]
-use std::time::Duration;
-#[cfg(feature = "tracing")]
-use tokio::time::Instant;
 
-/// A connection, and for events when it was opened.
+/// A connection, the moment from which on it is too old, and for events when it was opened.
 struct Stored<C> {
     conn: C,
-    /// The moment from which on it is too old, if connections have ends of their own.
     end: u64,
     #[cfg(feature = "tracing")]
-    opened: Instant,
+    opened: tokio::time::Instant,
 }
 
 /// Memory for one connection, reserved before the connection is opened.
@@ -40,7 +33,7 @@ impl<C> Reserved<C> {
             conn,
             end: u64::MAX,
             #[cfg(feature = "tracing")]
-            opened: Instant::now(),
+            opened: tokio::time::Instant::now(),
         });
         match self.0.try_into() {
             Ok(boxed) => Boxed(boxed, PhantomData),
@@ -70,7 +63,7 @@ impl<C> Boxed<C> {
 
     /// Returns how long ago it was opened.
     #[cfg(feature = "tracing")]
-    pub(crate) fn age(&self) -> Duration {
+    pub(crate) fn age(&self) -> std::time::Duration {
         self.0[0].opened.elapsed()
     }
 }

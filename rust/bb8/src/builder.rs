@@ -3,13 +3,13 @@
 use crate::api::Pool;
 use crate::managers::{CustomizeConnection, ErrorSink, ManageConnection, NopErrorSink};
 use crate::moments::Checks;
-use crate::pool::PoolInner;
+use crate::pool::Owner;
 use std::collections::hash_map::RandomState;
 use std::hash::{BuildHasher, Hasher};
-use std::marker::PhantomData;
 use std::time::Duration;
 
-/// The settings of a pool, as [`Pool::config`] returns them.
+/// The settings of a pool, as [`Pool::config`] returns them. The setters of [`Builder`] explain
+/// them.
 #[derive(Clone, Debug)]
 #[non_exhaustive]
 pub struct Config {
@@ -45,22 +45,7 @@ pub struct Config {
 
 impl<M: ManageConnection> From<&Builder<M>> for Config {
     fn from(builder: &Builder<M>) -> Self {
-        Config {
-            max_size: builder.max_size,
-            min_idle: builder.min_idle,
-            test_on_check_out: builder.test_on_check_out,
-            max_lifetime: builder.max_lifetime,
-            idle_timeout: builder.idle_timeout,
-            connection_timeout: builder.connection_timeout,
-            retry_connection: builder.retry_connection,
-            reaper_rate: builder.reaper_rate,
-            queue_strategy: builder.queue_strategy,
-            fair_after: builder.fair_after,
-            connect_timeout: builder.connect_timeout,
-            test_timeout: builder.test_timeout,
-            test_on_check_out_after: builder.test_on_check_out_after,
-            max_lifetime_jitter: builder.max_lifetime_jitter,
-        }
+        builder.config.clone()
     }
 }
 
@@ -74,54 +59,42 @@ pub enum QueueStrategy {
     Lifo,
 }
 
-/// Builds a pool from settings and a manager.
+/// Builds a pool from settings and a manager. Each setter names its default.
 #[derive(Debug)]
+#[must_use]
 pub struct Builder<M: ManageConnection> {
-    pub(crate) max_size: u32,
-    pub(crate) min_idle: Option<u32>,
-    pub(crate) test_on_check_out: bool,
-    pub(crate) test_on_check_out_after: Duration,
-    pub(crate) max_lifetime: Option<Duration>,
-    pub(crate) max_lifetime_jitter: f64,
-    pub(crate) idle_timeout: Option<Duration>,
-    pub(crate) connection_timeout: Duration,
-    pub(crate) connect_timeout: Option<Duration>,
-    pub(crate) test_timeout: Option<Duration>,
-    pub(crate) retry_connection: bool,
+    pub(crate) config: Config,
     pub(crate) error_sink: Box<dyn ErrorSink<M::Error>>,
-    pub(crate) reaper_rate: Duration,
-    pub(crate) queue_strategy: QueueStrategy,
-    pub(crate) fair_after: Option<Duration>,
     pub(crate) connection_customizer: Option<Box<dyn CustomizeConnection<M::Connection, M::Error>>>,
     pub(crate) name: Option<String>,
     #[cfg_attr(not(feature = "tracing"), allow(dead_code))]
     pub(crate) slow_get_threshold: Option<Duration>,
-    _p: PhantomData<M>,
 }
 
 impl<M: ManageConnection> Default for Builder<M> {
     fn default() -> Self {
         const MINUTE: Duration = Duration::from_secs(60);
         Builder {
-            max_size: 10,
-            min_idle: None,
-            test_on_check_out: true,
-            test_on_check_out_after: Duration::ZERO,
-            max_lifetime: Some(30 * MINUTE),
-            max_lifetime_jitter: 0.0,
-            idle_timeout: Some(10 * MINUTE),
-            connection_timeout: MINUTE / 2,
-            connect_timeout: None,
-            test_timeout: None,
-            retry_connection: true,
+            config: Config {
+                max_size: 10,
+                min_idle: None,
+                test_on_check_out: true,
+                max_lifetime: Some(30 * MINUTE),
+                idle_timeout: Some(10 * MINUTE),
+                connection_timeout: MINUTE / 2,
+                retry_connection: true,
+                reaper_rate: MINUTE / 2,
+                queue_strategy: QueueStrategy::default(),
+                fair_after: None,
+                connect_timeout: None,
+                test_timeout: None,
+                test_on_check_out_after: Duration::ZERO,
+                max_lifetime_jitter: 0.0,
+            },
             error_sink: Box::new(NopErrorSink),
-            reaper_rate: MINUTE / 2,
-            queue_strategy: QueueStrategy::default(),
-            fair_after: None,
             connection_customizer: None,
             name: None,
             slow_get_threshold: Some(Duration::from_secs(2)),
-            _p: PhantomData,
         }
     }
 }
@@ -139,158 +112,19 @@ fn random() -> f64 {
     u32::try_from(bits >> 32).map_or(0.0, f64::from) / f64::from(u32::MAX)
 }
 
-impl<M: ManageConnection> Builder<M> {
-    /// Returns a builder with the default settings. Each setter names its default.
-    #[must_use]
-    pub fn new() -> Self {
-        Builder::default()
-    }
-
-    /// Sets the maximum of connections and connection attempts, together. The default is 10.
-    ///
-    /// # Panics
-    ///
-    /// If it is 0.
-    #[must_use]
-    pub fn max_size(mut self, max_size: u32) -> Self {
-        assert!(max_size > 0, "max_size must be greater than zero!");
-        self.max_size = max_size;
-        self
-    }
-
-    /// Sets how many idle connections the pool tries to keep, within `max_size`. The default is
-    /// none. The idle timeout spares as many.
-    #[must_use]
-    pub fn min_idle(mut self, min_idle: impl Into<Option<u32>>) -> Self {
-        self.min_idle = min_idle.into();
-        self
-    }
-
-    /// Sets whether the manager's `is_valid` checks a connection before it is checked out. The
-    /// default is true.
-    #[must_use]
-    pub fn test_on_check_out(mut self, test_on_check_out: bool) -> Self {
-        self.test_on_check_out = test_on_check_out;
-        self
-    }
-
-    /// Sets for how long a connection has to be idle until it is checked. By default this is zero,
-    /// so each connection is checked. One that was opened or returned less than that long ago is
-    /// checked out unchecked, which saves a request to the server in most gets of a busy pool. A
-    /// quarter of a second or a second is a good choice. If the check is off, it does nothing.
-    ///
-    /// So a connection may be dead that was well so shortly before. Each get and each return reads
-    /// the clock.
-    ///
-    /// Exception: with [`Builder::max_lifetime_jitter`] it does nothing, and each connection is
-    /// checked, so that none is checked out past its own end.
-    ///
-    /// # Examples
-    ///
-    /// ```
-    /// use bb8::Pool;
-    /// use std::time::Duration;
-    /// # include!(concat!(env!("CARGO_MANIFEST_DIR"), "/tests/common/numbers.rs"));
-    /// # #[tokio::main]
-    /// # async fn main() {
-    ///
-    /// let pool = Pool::builder()
-    ///     .test_on_check_out_after(Duration::from_millis(250))
-    ///     .build(Numbers::default())
-    ///     .await
-    ///     .unwrap();
-    /// drop(pool.get().await.unwrap());
-    /// // The connection was returned just now, so it is not checked.
-    /// assert!(pool.get().await.is_ok());
-    /// # }
-    /// ```
-    #[must_use]
-    pub fn test_on_check_out_after(mut self, idle: Duration) -> Self {
-        self.test_on_check_out_after = idle;
-        self
-    }
-
-    /// Sets the age at which a connection is closed. The default is 30 minutes. An idle connection
-    /// is closed by the next reap, a checked-out one when it is returned. See also
-    /// [`Builder::max_lifetime_jitter`].
-    ///
-    /// # Panics
-    ///
-    /// If it is zero.
-    #[must_use]
-    pub fn max_lifetime(mut self, max_lifetime: impl Into<Option<Duration>>) -> Self {
-        self.max_lifetime = max_lifetime.into();
-        assert_above_zero(self.max_lifetime, "max_lifetime");
-        self
-    }
-
-    /// Sets by which share of `max_lifetime`, at most, the life of each connection is shortened at
-    /// random: 0 by default. With 0.2 and the default of 30 minutes connections live for 24 to 30
-    /// minutes, so those that were opened together are not all replaced together. Without a
-    /// `max_lifetime` it does nothing.
-    ///
-    /// A connection past its own end is closed when its guard is dropped, and counts in
-    /// `connections_closed_broken`. An idle one is closed when a get takes it out, as if its check
-    /// had failed: it counts in `connections_closed_invalid`, and the get goes on with the next.
-    ///
-    /// Exception: the reaper compares with `max_lifetime` alone. So connections that no get takes
-    /// out are closed at that age, all in one reap if they were opened together. With jitter each
-    /// get and each return read the clock once more.
-    ///
-    /// # Panics
-    ///
-    /// If it is not from 0 to 1.
-    ///
-    /// # Examples
-    ///
-    /// ```
-    /// use bb8::Pool;
-    /// use std::time::Duration;
-    /// # include!(concat!(env!("CARGO_MANIFEST_DIR"), "/tests/common/numbers.rs"));
-    /// # #[tokio::main]
-    /// # async fn main() {
-    ///
-    /// let pool = Pool::builder()
-    ///     .max_lifetime(Duration::from_secs(600))
-    ///     .max_lifetime_jitter(0.2)
-    ///     .build(Numbers::default())
-    ///     .await
-    ///     .unwrap();
-    /// assert_eq!(pool.config().max_lifetime_jitter, 0.2);
-    /// # }
-    /// ```
-    #[must_use]
-    pub fn max_lifetime_jitter(mut self, share: f64) -> Self {
-        let is_share = (0.0..=1.0).contains(&share);
-        assert!(is_share, "max_lifetime_jitter must be from 0 to 1!");
-        self.max_lifetime_jitter = share;
-        self
-    }
-
+impl Config {
     /// Whether connections are closed for their age, or for how long they are idle.
     pub(crate) fn has_limits(&self) -> bool {
         self.max_lifetime.is_some() || self.idle_timeout.is_some()
     }
 
-    /// Which connections are checked before they are checked out. All are if each has an end of its
+    /// Which connections are checked before they are checked out: all if each has an end of its
     /// own.
     pub(crate) fn checks(&self) -> Checks {
-        if self.has_ends() {
-            Checks::All
-        } else if !self.test_on_check_out {
-            Checks::Off
-        } else if self.test_on_check_out_after > Duration::ZERO {
-            Checks::Stale
-        } else {
-            Checks::All
-        }
-    }
-
-    /// For how long a connection has to be idle until it is checked, as the core is told.
-    pub(crate) fn test_after(&self) -> Duration {
-        match self.checks() {
-            Checks::Stale => self.test_on_check_out_after,
-            Checks::Off | Checks::All => Duration::ZERO,
+        match (self.has_ends(), self.test_on_check_out) {
+            (false, false) => Checks::Off,
+            (false, true) if self.test_on_check_out_after > Duration::ZERO => Checks::Stale,
+            _ => Checks::All,
         }
     }
 
@@ -306,104 +140,174 @@ impl<M: ManageConnection> Builder<M> {
         // An error means more seconds than a duration has.
         Some(longest.saturating_sub(Duration::try_from_secs_f64(cut).unwrap_or_default()))
     }
+}
 
-    /// Sets after how long an idle connection is closed, by the next reap. The default is 10
-    /// minutes. As many as `min_idle` are kept.
-    ///
-    /// # Panics
-    ///
-    /// If it is zero.
-    #[must_use]
-    pub fn idle_timeout(mut self, idle_timeout: impl Into<Option<Duration>>) -> Self {
-        self.idle_timeout = idle_timeout.into();
-        assert_above_zero(self.idle_timeout, "idle_timeout");
+impl<M: ManageConnection> Builder<M> {
+    /// Returns a builder with the default settings.
+    pub fn new() -> Self {
+        Builder::default()
+    }
+
+    /// Sets the maximum of connections and connection attempts, together: the number of slots. The
+    /// default is 10. Panics if it is 0.
+    #[doc(alias = "slot")]
+    pub fn max_size(mut self, max_size: u32) -> Self {
+        assert!(max_size > 0, "max_size must be greater than zero!");
+        self.config.max_size = max_size;
         self
     }
 
-    /// Sets how long a get may take, and for how long a failed connection attempt is retried. The
-    /// default is 30 seconds.
-    ///
-    /// # Panics
-    ///
-    /// If it is zero.
-    #[must_use]
-    pub fn connection_timeout(mut self, connection_timeout: Duration) -> Self {
-        assert!(
-            connection_timeout > Duration::ZERO,
-            "connection_timeout must be non-zero"
-        );
-        self.connection_timeout = connection_timeout;
+    /// Sets how many idle connections the pool tries to keep, within `max_size`. The default is
+    /// none. The idle timeout spares as many.
+    pub fn min_idle(mut self, min_idle: impl Into<Option<u32>>) -> Self {
+        self.config.min_idle = min_idle.into();
         self
     }
 
-    /// Sets how long one attempt to open a connection may take: as long as `connection_timeout` by
-    /// default. An attempt that takes longer is dropped. It counts as failed, and is retried as
-    /// [`Builder::retry_connection`] says. So a server that accepts connections and never answers
-    /// does not hold the slots of the pool.
+    /// Sets whether the manager's `is_valid` checks a connection before it is checked out. The
+    /// default is true.
+    pub fn test_on_check_out(mut self, test_on_check_out: bool) -> Self {
+        self.config.test_on_check_out = test_on_check_out;
+        self
+    }
+
+    /// Sets for how long a connection has to be idle until it is checked. The default is zero, so
+    /// each connection is checked. A quarter of a second or a second saves a request to the server
+    /// in most gets of a busy pool. If the check is off, it does nothing.
     ///
-    /// Exception: [`Builder::build`] waits for its first connections without this limit, as bb8
-    /// does, because it has no error for it.
+    /// So a get may return a connection that died since it was opened or returned. Each get and
+    /// each return reads the clock.
     ///
-    /// # Panics
-    ///
-    /// If it is zero.
+    /// Exception: with [`Builder::max_lifetime_jitter`] it does nothing, and each connection is
+    /// checked, so that none is checked out past its own end.
     ///
     /// # Examples
     ///
     /// ```
-    /// use bb8::Pool;
+    /// use std::time::Duration;
+    /// # include!(concat!(env!("CARGO_MANIFEST_DIR"), "/tests/common/numbers.rs"));
+    /// # #[tokio::main] async fn main() {
+    /// let builder = bb8::Pool::builder().test_on_check_out_after(Duration::from_millis(250));
+    /// let pool = builder.build(Numbers::default()).await.unwrap();
+    /// drop(pool.get().await.unwrap());
+    /// // The connection was returned just now, so it is not checked.
+    /// assert!(pool.get().await.is_ok());
+    /// # }
+    /// ```
+    pub fn test_on_check_out_after(mut self, idle: Duration) -> Self {
+        self.config.test_on_check_out_after = idle;
+        self
+    }
+
+    /// Sets the age at which a connection is closed. The default is 30 minutes. An idle connection
+    /// is closed by the next reap, a checked-out one when it is returned. See also
+    /// [`Builder::max_lifetime_jitter`]. Panics if it is zero.
+    pub fn max_lifetime(mut self, max_lifetime: impl Into<Option<Duration>>) -> Self {
+        self.config.max_lifetime = max_lifetime.into();
+        assert_above_zero(self.config.max_lifetime, "max_lifetime");
+        self
+    }
+
+    /// Sets by which share of `max_lifetime`, at most, the life of each connection is shortened at
+    /// random. The default is 0. With 0.2 and 30 minutes connections live for 24 to 30 minutes, so
+    /// those that were opened together are not all replaced together. Without a `max_lifetime` it
+    /// does nothing. Panics if it is not from 0 to 1.
+    ///
+    /// A connection past its own end is closed when its guard is dropped, and counts in
+    /// `connections_closed_broken`. An idle one is closed when a get takes it out, as if its check
+    /// had failed, and counts in `connections_closed_invalid`. Each get and each return reads the
+    /// clock once more.
+    ///
+    /// Exception: the reaper compares with `max_lifetime` alone. So connections that no get takes
+    /// out are closed at that age, all in one reap if they were opened together.
+    ///
+    /// # Examples
+    ///
+    /// ```
+    /// # include!(concat!(env!("CARGO_MANIFEST_DIR"), "/tests/common/numbers.rs"));
+    /// # #[tokio::main] async fn main() {
+    /// // Each connection lives for 24 to 30 minutes.
+    /// let builder = bb8::Pool::builder().max_lifetime_jitter(0.2);
+    /// let pool = builder.build(Numbers::default()).await.unwrap();
+    /// assert_eq!(pool.config().max_lifetime_jitter, 0.2);
+    /// # }
+    /// ```
+    pub fn max_lifetime_jitter(mut self, share: f64) -> Self {
+        let is_share = (0.0..=1.0).contains(&share);
+        assert!(is_share, "max_lifetime_jitter must be from 0 to 1!");
+        self.config.max_lifetime_jitter = share;
+        self
+    }
+
+    /// Sets after how long an idle connection is closed, by the next reap. The default is 10
+    /// minutes. As many as `min_idle` are kept. Panics if it is zero.
+    pub fn idle_timeout(mut self, idle_timeout: impl Into<Option<Duration>>) -> Self {
+        self.config.idle_timeout = idle_timeout.into();
+        assert_above_zero(self.config.idle_timeout, "idle_timeout");
+        self
+    }
+
+    /// Sets how long a get may take, and for how long a failed connection attempt is retried. The
+    /// default is 30 seconds. Panics if it is zero.
+    pub fn connection_timeout(mut self, connection_timeout: Duration) -> Self {
+        let is_zero = connection_timeout == Duration::ZERO;
+        assert!(!is_zero, "connection_timeout must be non-zero");
+        self.config.connection_timeout = connection_timeout;
+        self
+    }
+
+    /// Sets how long one connection attempt may take. The default is as long as
+    /// `connection_timeout`. An attempt that takes longer is dropped, counts as failed, and is
+    /// retried as [`Builder::retry_connection`] says. So a server that accepts connections and
+    /// never answers does not hold the slots of the pool. Panics if it is zero.
+    ///
+    /// Exception: [`Builder::build`] waits for its first connections without this limit, as it has
+    /// no error for it.
+    ///
+    /// # Examples
+    ///
+    /// ```
     /// use std::time::Duration;
     /// # include!(concat!(env!("CARGO_MANIFEST_DIR"), "/tests/common/silent.rs"));
-    /// # #[tokio::main]
-    /// # async fn main() {
-    ///
+    /// # #[tokio::main] async fn main() {
     /// // Over a server that accepts connections and never answers.
-    /// let pool = Pool::builder()
+    /// let pool = bb8::Pool::builder()
     ///     .connect_timeout(Duration::from_millis(20))
     ///     .build_unchecked(Silent::Connect);
     /// assert!(pool.get_timeout(Duration::from_millis(50)).await.is_err());
     /// assert!(pool.state().statistics.connections_failed > 0);
     /// # }
     /// ```
-    #[must_use]
     pub fn connect_timeout(mut self, connect_timeout: impl Into<Option<Duration>>) -> Self {
-        self.connect_timeout = connect_timeout.into();
-        assert_above_zero(self.connect_timeout, "connect_timeout");
+        self.config.connect_timeout = connect_timeout.into();
+        assert_above_zero(self.config.connect_timeout, "connect_timeout");
         self
     }
 
-    /// Sets how long a check may take: as long as its get has time by default. One that takes
+    /// Sets how long a check may take. The default is as long as its get has time. One that takes
     /// longer counts as failed: its connection is closed, and the get goes on with the next one.
+    /// Panics if it is zero.
     ///
-    /// If connections may die without a reset, as in a failover, set it to some hundred
-    /// milliseconds, so that gets do not wait for checks that never end. Without it, a get whose
-    /// check hangs times out, and that connection is closed, too.
-    ///
-    /// # Panics
-    ///
-    /// If it is zero.
+    /// Set it to some hundred milliseconds if connections may die without a reset, as in a
+    /// failover. Without it, a get whose check hangs times out.
     ///
     /// # Examples
     ///
     /// ```
-    /// use bb8::Pool;
     /// use std::time::Duration;
     /// # include!(concat!(env!("CARGO_MANIFEST_DIR"), "/tests/common/silent.rs"));
-    /// # #[tokio::main]
-    /// # async fn main() {
-    ///
+    /// # #[tokio::main] async fn main() {
     /// // Over a server that does not answer the check.
-    /// let pool = Pool::builder()
+    /// let pool = bb8::Pool::builder()
     ///     .test_timeout(Duration::from_millis(20))
     ///     .build_unchecked(Silent::Check);
     /// assert!(pool.get_timeout(Duration::from_millis(50)).await.is_err());
     /// assert!(pool.state().statistics.checks_timed_out > 0);
     /// # }
     /// ```
-    #[must_use]
     pub fn test_timeout(mut self, test_timeout: impl Into<Option<Duration>>) -> Self {
-        self.test_timeout = test_timeout.into();
-        assert_above_zero(self.test_timeout, "test_timeout");
+        self.config.test_timeout = test_timeout.into();
+        assert_above_zero(self.config.test_timeout, "test_timeout");
         self
     }
 
@@ -411,12 +315,10 @@ impl<M: ManageConnection> Builder<M> {
     /// The default is true. The pauses are 0.4 s, 0.8 s, 1.6 s and so on, at most half the
     /// `connection_timeout`.
     ///
-    /// As long as a get waits for it, an attempt goes on after that time, too, with the same
-    /// pauses: so a get that outlives an outage is served. This also holds if the setting is off,
-    /// and after the manager has panicked.
-    #[must_use]
+    /// Exception: as long as a get waits for it, an attempt is retried after that time, too, and if
+    /// the setting is off or the manager has panicked. So a get that outlives an outage is served.
     pub fn retry_connection(mut self, retry: bool) -> Self {
-        self.retry_connection = retry;
+        self.config.retry_connection = retry;
         self
     }
 
@@ -445,76 +347,53 @@ impl<M: ManageConnection> Builder<M> {
     ///     Pool::builder().error_sink(Box::new(Log))
     /// }
     /// ```
-    #[must_use]
     pub fn error_sink(mut self, error_sink: Box<dyn ErrorSink<M::Error>>) -> Self {
         self.error_sink = error_sink;
         self
     }
 
     /// Sets how often the pool closes connections that are too old, or idle for too long. The
-    /// default is every 30 seconds. A pool without these limits has no reaper.
-    ///
-    /// # Panics
-    ///
-    /// If it is zero and an age is limited, building the pool panics.
-    #[must_use]
+    /// default is every 30 seconds. A pool without these limits has no reaper. If it is zero and an
+    /// age is limited, building the pool panics.
     pub fn reaper_rate(mut self, reaper_rate: Duration) -> Self {
-        self.reaper_rate = reaper_rate;
+        self.config.reaper_rate = reaper_rate;
         self
     }
 
     /// Sets which idle connection is checked out first. The default is `Fifo`.
-    #[must_use]
     pub fn queue_strategy(mut self, queue_strategy: QueueStrategy) -> Self {
-        self.queue_strategy = queue_strategy;
+        self.config.queue_strategy = queue_strategy;
         self
     }
 
-    /// Sets after which wait a get is handed its connection directly. By default this never
-    /// happens. If gets wait, a millisecond is a good choice.
+    /// Sets after which wait a get is handed its connection directly, which prevents starvation. By
+    /// default this never happens. A millisecond is a good choice.
     ///
     /// By default a returned connection becomes idle, and the longest waiter is woken. A get that
-    /// asks before the woken task runs takes the connection, and the woken get waits again, behind
-    /// all others. So a get may time out while a few tasks are served again and again. With this
+    /// asks before the woken task runs takes the connection, and the woken get goes to the back of
+    /// the queue. So a get may time out while a few tasks are served again and again. With this
     /// setting, a get that has waited long enough is handed the connection when it is returned, and
     /// no other get can take it.
     ///
-    /// At zero, gets are served in the order in which they began to wait. Exception: if a
-    /// connection is closed instead of returned, the get for which another one is opened goes to
-    /// the back of the queue. But each returned connection is unused until a woken task runs, which
-    /// costs a third to more than half of all rounds if connections are held for microseconds. A
-    /// millisecond does not cost these rounds, and no get waits much longer than the gets before it
-    /// take. If tasks compute for milliseconds without an await, it costs up to a fifth, as they
-    /// delay the tasks that they wake.
+    /// At zero, gets are served in the order of the queue. Exception: if a connection is closed
+    /// instead of returned, the get for which another one is opened goes to the back. But a
+    /// returned connection is unused until the woken task runs, which costs a third to more than
+    /// half of all rounds if connections are held for microseconds. A millisecond costs none of
+    /// them, unless tasks compute for milliseconds without an await: then it costs up to a fifth.
     ///
     /// A future that was handed a connection has to be polled or dropped. If it is kept without
     /// being polled, it keeps the connection, even from the task that owns it:
     ///
     /// ```
-    /// # use bb8::{ManageConnection, Pool, RunError};
-    /// # use std::convert::Infallible;
+    /// # use bb8::{Pool, RunError};
     /// # use std::time::Duration;
-    /// # struct Numbers;
-    /// # impl ManageConnection for Numbers {
-    /// #     type Connection = u64;
-    /// #     type Error = Infallible;
-    /// #     async fn connect(&self) -> Result<u64, Infallible> {
-    /// #         Ok(7)
-    /// #     }
-    /// #     async fn is_valid(&self, _conn: &mut u64) -> Result<(), Infallible> {
-    /// #         Ok(())
-    /// #     }
-    /// #     fn has_broken(&self, _conn: &mut u64) -> bool {
-    /// #         false
-    /// #     }
-    /// # }
-    /// # #[tokio::main(flavor = "current_thread")]
-    /// # async fn main() {
+    /// # include!(concat!(env!("CARGO_MANIFEST_DIR"), "/tests/common/numbers.rs"));
+    /// # #[tokio::main(flavor = "current_thread")] async fn main() {
     /// let pool = Pool::builder()
     ///     .max_size(1)
     ///     .fair_after(Duration::ZERO)
     ///     .connection_timeout(Duration::from_millis(50))
-    ///     .build(Numbers)
+    ///     .build(Numbers::default())
     ///     .await
     ///     .unwrap();
     /// let conn = pool.get().await.unwrap();
@@ -529,13 +408,13 @@ impl<M: ManageConnection> Builder<M> {
     /// assert!(kept.await.is_ok());
     /// # }
     /// ```
-    #[must_use]
+    #[doc(alias("queue", "starvation"))]
     pub fn fair_after(mut self, wait: impl Into<Option<Duration>>) -> Self {
-        self.fair_after = wait.into();
+        self.config.fair_after = wait.into();
         self
     }
 
-    /// Sets the customizer, which prepares each opened connection and looks at each returned one.
+    /// Sets the customizer, which prepares each opened connection and inspects each returned one.
     /// By default there is none.
     ///
     /// # Examples
@@ -564,7 +443,6 @@ impl<M: ManageConnection> Builder<M> {
     ///     Pool::builder().connection_customizer(Box::new(InUtc))
     /// }
     /// ```
-    #[must_use]
     pub fn connection_customizer(
         mut self,
         connection_customizer: Box<dyn CustomizeConnection<M::Connection, M::Error>>,
@@ -574,37 +452,31 @@ impl<M: ManageConnection> Builder<M> {
     }
 
     /// Sets the name of the pool in its `Debug` output, and in its events if the cargo feature
-    /// `tracing` is on: none by default.
+    /// `tracing` is on. By default it has none.
     ///
     /// # Examples
     ///
     /// ```
-    /// use bb8::{Builder, ManageConnection, Pool};
-    ///
-    /// fn orders<M: ManageConnection>() -> Builder<M> {
-    ///     Pool::builder().name("orders")
+    /// fn orders<M: bb8::ManageConnection>() -> bb8::Builder<M> {
+    ///     bb8::Pool::builder().name("orders")
     /// }
     /// ```
-    #[must_use]
     pub fn name(mut self, name: impl Into<String>) -> Self {
         self.name = Some(name.into());
         self
     }
 
     /// Sets how long a `get` that waits or checks may take before the pool reports it by `tracing`,
-    /// with its state: two seconds by default. Without the cargo feature `tracing` it does nothing.
+    /// with its state. The default is two seconds. Without the cargo feature `tracing` it does
+    /// nothing.
     ///
     /// # Examples
     ///
     /// ```
-    /// use bb8::{Builder, ManageConnection, Pool};
-    /// use std::time::Duration;
-    ///
-    /// fn watched<M: ManageConnection>() -> Builder<M> {
-    ///     Pool::builder().slow_get_threshold(Duration::from_millis(100))
+    /// fn watched<M: bb8::ManageConnection>() -> bb8::Builder<M> {
+    ///     bb8::Pool::builder().slow_get_threshold(std::time::Duration::from_millis(100))
     /// }
     /// ```
-    #[must_use]
     pub fn slow_get_threshold(mut self, threshold: impl Into<Option<Duration>>) -> Self {
         self.slow_get_threshold = threshold.into();
         self
@@ -612,16 +484,17 @@ impl<M: ManageConnection> Builder<M> {
 
     #[track_caller]
     fn make(self, manager: M) -> Pool<M> {
+        let config = &self.config;
         assert!(
-            self.min_idle.unwrap_or(0) <= self.max_size,
+            config.min_idle.unwrap_or(0) <= config.max_size,
             "min_idle must be no larger than max_size"
         );
         assert!(
-            !self.has_limits() || self.reaper_rate > Duration::ZERO,
+            !config.has_limits() || config.reaper_rate > Duration::ZERO,
             "reaper_rate must be greater than zero!"
         );
         Pool {
-            inner: PoolInner::new(self, manager),
+            owner: Owner::new(self, manager),
         }
     }
 
@@ -638,7 +511,7 @@ impl<M: ManageConnection> Builder<M> {
     /// age is limited and this is called outside of a tokio runtime.
     pub async fn build(self, manager: M) -> Result<Pool<M>, M::Error> {
         let pool = self.make(manager);
-        pool.inner.start().await?;
+        pool.shared().start().await?;
         Ok(pool)
     }
 
@@ -649,7 +522,7 @@ impl<M: ManageConnection> Builder<M> {
     /// As [`build`](Self::build).
     pub fn build_unchecked(self, manager: M) -> Pool<M> {
         let pool = self.make(manager);
-        pool.inner.spawn_start();
+        pool.shared().spawn_start();
         pool
     }
 }

@@ -9,13 +9,13 @@ pub(crate) use bb8_core::internals::{
 };
 
 use crate::boxed::Boxed;
-use crate::builder::{Builder, QueueStrategy};
-use crate::managers::ManageConnection;
+use crate::builder::{Config, QueueStrategy};
 use crate::moments::Checks;
 use bb8_core::api;
 #[cfg(not(test))]
 use bb8_core::internals::PoolInternals;
 use bb8_core::kit::Global;
+use std::time::Duration;
 
 /// A connection as the core holds it. `None` stands for one that was dropped before the core is
 /// told of its return; the core closes it, so it is never idle.
@@ -29,12 +29,15 @@ pub(crate) type Core<C> = PoolInternals<Held<C>>;
 pub(crate) type Core<C> = crate::tests::journal::Noted<C>;
 
 /// Returns a core with one handle. The builder has tested the settings.
-pub(crate) fn core<M: ManageConnection>(settings: &Builder<M>) -> Core<M::Connection> {
+pub(crate) fn core<C>(settings: &Config) -> Core<C> {
     let config = api::Config {
         max_size: settings.max_size,
         min_idle: settings.min_idle,
         test_on_check_out: settings.checks() != Checks::Off,
-        test_after: settings.test_after(),
+        test_after: match settings.checks() {
+            Checks::Stale => settings.test_on_check_out_after,
+            Checks::Off | Checks::All => Duration::ZERO,
+        },
         max_lifetime: settings.max_lifetime,
         idle_timeout: settings.idle_timeout,
         connection_timeout: settings.connection_timeout,
@@ -51,8 +54,7 @@ pub(crate) fn core<M: ManageConnection>(settings: &Builder<M>) -> Core<M::Connec
 }
 
 /// Panics because a step was refused: it names a get or a connection that the core does not have in
-/// that state. The step has changed nothing. Only a bug in this crate leads here, and nothing may
-/// be checked out or freed on the strength of it.
+/// that state. Only a bug in this crate leads here, and the step has changed nothing.
 #[cold]
 pub(crate) fn unfit() -> ! {
     panic!("the core refused a step of its own pool");

@@ -15,14 +15,15 @@ pub(crate) const IDLE_TIMEOUT: &str = "idle_timeout";
 pub(crate) const MAX_LIFETIME: &str = "max_lifetime";
 pub(crate) const NOT_KEPT: &str = "on_release returned false";
 pub(crate) const RETIRED: &str = "retired";
-/// By a call, or by its last handle.
 pub(crate) const CLOSED: &str = "the pool is closed";
 
 /// Reports an event of a pool at a level, with fields and a message.
 macro_rules! report {
     ($level:ident, $shared:ident, $($event:tt)*) => {
-        #[cfg(feature = "tracing")]
-        tracing::$level!(pool = $shared.name(), $($event)*)
+        {
+            #[cfg(feature = "tracing")]
+            tracing::$level!(pool = $shared.name(), $($event)*);
+        }
     };
 }
 
@@ -36,24 +37,16 @@ impl<M: ManageConnection> Shared<M> {
     /// Reports a failed attempt to open a connection. Without an error it took too long.
     pub(crate) fn attempt_failed(&self, error: Option<&M::Error>) {
         match error {
-            Some(error) => {
-                report!(warn, self, ?error, "connection attempt failed");
-            }
-            None => {
-                report!(warn, self, "connection attempt timed out");
-            }
+            Some(error) => report!(warn, self, ?error, "connection attempt failed"),
+            None => report!(warn, self, "connection attempt timed out"),
         }
     }
 
     /// Reports a failed check. Without an error it took too long.
     pub(crate) fn check_failed(&self, error: Option<&M::Error>) {
         match error {
-            Some(error) => {
-                report!(warn, self, ?error, "check of a connection failed");
-            }
-            None => {
-                report!(warn, self, "check of a connection timed out");
-            }
+            Some(error) => report!(warn, self, ?error, "check of a connection failed"),
+            None => report!(warn, self, "check of a connection timed out"),
         }
     }
 
@@ -85,7 +78,11 @@ impl<M: ManageConnection> Shared<M> {
         #[cfg(feature = "tracing")]
         {
             let age = conn.age();
-            let is_old = self.settings.max_lifetime.is_some_and(|limit| age >= limit);
+            let is_old = self
+                .settings
+                .config
+                .max_lifetime
+                .is_some_and(|limit| age >= limit);
             let reason = match reason {
                 IDLE_TIMEOUT | RETIRED if is_old => MAX_LIFETIME,
                 reason => reason,

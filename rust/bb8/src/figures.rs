@@ -22,18 +22,16 @@ pub struct State {
 ///
 /// At every moment, `connections_created` plus `connections_added` equals `connections_closed` plus
 /// `connections_detached` plus [`State::connections`]. The figures by reason do not add up to
-/// `connections_closed`: a connection whose check failed and that was broken, past `max_lifetime`
-/// or retired, too, counts in two of them, and those that [`Pool::close`](crate::Pool::close) or
-/// the last handle closed in none.
+/// `connections_closed`: a connection may count in two of them (a failed check, and broken, past
+/// `max_lifetime` or retired), and one that [`Pool::close`](crate::Pool::close) or the last handle
+/// closed counts in none.
 ///
 /// # Examples
 ///
 /// ```
 /// use bb8::{Pool, PooledConnection};
 /// # include!(concat!(env!("CARGO_MANIFEST_DIR"), "/tests/common/numbers.rs"));
-/// # #[tokio::main]
-/// # async fn main() {
-///
+/// # #[tokio::main] async fn main() {
 /// let pool = Pool::builder().build(Numbers::default()).await.unwrap();
 /// let conn = pool.get().await.unwrap(); // opens a connection
 /// assert_eq!(PooledConnection::detach(conn), 0);
@@ -53,49 +51,44 @@ pub struct State {
 pub struct Statistics {
     /// `get` calls that began.
     pub get_started: u64,
-    /// `get` calls that were served without ever having waited.
+    /// `get` calls that were served without having waited.
     pub get_direct: u64,
-    /// `get` calls that were served after they had waited. In a fair pool without checks a get is
-    /// served when it is handed a connection: see
-    /// [`Builder::fair_after`](crate::Builder::fair_after).
+    /// `get` calls that were served after they had waited. With `fair_after` and without checks a
+    /// get is served when it is handed a connection.
     pub get_waited: u64,
     /// `get` calls that timed out.
     pub get_timed_out: u64,
-    /// `get` calls whose future was dropped before it resolved. One that a `timeout(d, pool.get())`
-    /// from outside cuts off counts here, not as timed out;
-    /// [`Pool::get_timeout`](crate::Pool::get_timeout) counts as timed out. A
-    /// [`Pool::try_get`](crate::Pool::try_get) counts here if all that it checked failed, and a get
-    /// that waits when the pool is closed.
+    /// `get` calls whose future was dropped before it resolved, and those that waited when the pool
+    /// was closed. A [`Pool::try_get`](crate::Pool::try_get) counts here if all that it checked
+    /// failed. A `timeout(d, pool.get())` counts here, a
+    /// [`Pool::get_timeout`](crate::Pool::get_timeout) as timed out.
+    #[doc(alias = "cancellation")]
     pub get_cancelled: u64,
     /// How long the served and timed-out gets had waited, each from its first wait to its end, in
     /// whole microseconds.
     pub get_wait_time: Duration,
-    /// Connections that were opened by the pool.
+    /// Connections that the pool opened, without those that were retired before they were open.
     pub connections_created: u64,
-    /// Connections that were added by [`Pool::add`](crate::Pool::add).
+    /// Connections that [`Pool::add`](crate::Pool::add) added.
     pub connections_added: u64,
-    /// Attempts to open a connection that failed, timed out or panicked, each try counted.
+    /// Connection attempts that failed, timed out or panicked, each try counted.
     pub connections_failed: u64,
-    /// Connections that were closed, for any reason, each counted once. Detached ones do not count.
+    /// Connections that were closed, for any reason. Detached ones do not count.
     pub connections_closed: u64,
-    /// Connections that were closed because they were broken, because their check was cut off,
-    /// because [`CustomizeConnection::on_release`](crate::CustomizeConnection::on_release) did not
-    /// keep them, or because they were returned past the end that
-    /// [`Builder::max_lifetime_jitter`](crate::Builder::max_lifetime_jitter) gave them.
+    /// Connections that were closed because they were broken or their check was cut off, because
+    /// `on_release` did not keep them, or because they were returned past the end that
+    /// `max_lifetime_jitter` gave them.
     pub connections_closed_broken: u64,
-    /// Connections that were closed because their check failed, or took longer than
-    /// [`Builder::test_timeout`](crate::Builder::test_timeout), or because a get took them out past
-    /// the end that [`Builder::max_lifetime_jitter`](crate::Builder::max_lifetime_jitter) gave
-    /// them.
+    /// Connections that were closed because their check failed or took longer than `test_timeout`,
+    /// or because a get took them out past the end that `max_lifetime_jitter` gave them.
     pub connections_closed_invalid: u64,
-    /// Connections that were closed because of `max_lifetime`, and were not retired. Those past an
-    /// earlier end, by [`Builder::max_lifetime_jitter`](crate::Builder::max_lifetime_jitter), count
-    /// as broken or invalid.
+    /// Connections that were closed because of `max_lifetime`, and were not retired. With
+    /// `max_lifetime_jitter` most count as broken or invalid.
     pub connections_closed_max_lifetime: u64,
     /// Connections that were closed because of `idle_timeout`.
     pub connections_closed_idle_timeout: u64,
-    /// Connections that were closed because of [`Pool::retire`](crate::Pool::retire). Those that
-    /// were past `max_lifetime`, too, count here alone.
+    /// Connections that were closed because of [`Pool::retire`](crate::Pool::retire), past
+    /// `max_lifetime` or not.
     pub connections_closed_retired: u64,
     /// Connections that left the pool by
     /// [`PooledConnection::detach`](crate::PooledConnection::detach).

@@ -1,12 +1,13 @@
 //! One `get`: it tries, waits, checks the connection that it was handed, and ends.
 
 use crate::api::{Pool, PooledConnection};
-use crate::builder::Builder;
+use crate::builder::Config;
 use crate::core::{
     after, unfit, CheckedOkAnswer, Checkout, Core, GetKey, Held, Key, Moment, Reason, Started,
     TryAnswer,
 };
 use crate::errors::RunError;
+use crate::events::{FAILED_CHECK, MAX_LIFETIME};
 use crate::lock::MutexGuard;
 use crate::managers::ManageConnection;
 use crate::moments::Checks;
@@ -19,19 +20,16 @@ use std::pin::{pin, Pin};
 use std::sync::Arc;
 use std::task::{Context, Poll, Waker};
 use std::time::Duration;
-use tokio::task::unconstrained;
+use tokio::task::{unconstrained, yield_now};
 use tokio::time::{sleep_until, Instant, Sleep};
 
-/// How far a get has come.
+/// How far a get has come. The core knows it from its begin to its end.
 #[derive(Clone, Copy, PartialEq, Eq)]
 enum Stage {
-    /// The core does not know it yet.
     New,
-    /// It has begun, and has not waited.
+    /// It has not waited.
     Begun,
-    /// It has begun, and has waited.
     Waited,
-    /// The core does not know it any more.
     Ended,
 }
 
@@ -42,15 +40,14 @@ pub(crate) enum Tried {
     /// The get holds a connection that is to be checked.
     Taken,
     TimedOut,
-    /// No connection is idle, and the get does not wait.
     NoneIdle,
-    /// The pool is closed, or memory for the get was refused.
+    /// The pool is closed, or memory was refused.
     Refused,
-    /// No number was left for the get.
+    /// No number was left.
     Exhausted,
 }
 
-/// A get in progress. If it is dropped before it ended, it is given up as cancelled.
+/// A get in progress. If it is dropped before it has ended, it is cancelled.
 pub(crate) struct Getting<'a, M: ManageConnection> {
     shared: &'a Arc<Shared<M>>,
     stage: Stage,
@@ -68,13 +65,13 @@ impl<M: ManageConnection> Pool<M> {
     /// over, or if no connection is idle and the get does not wait.
     pub(crate) async fn checkout<'a, const WAITS: bool, T>(
         &'a self,
-        limit: impl Limit<M>,
+        limit: impl Limit,
         result: impl FnOnce(Option<PooledConnection<'a, M>>) -> Result<T, RunError<M::Error>>,
     ) -> Result<T, RunError<M::Error>> {
-        let shared = self.inner.shared();
+        let shared = self.shared();
         let checks = shared.checks != Checks::Off;
         if let Some(checkout) = (!checks).then(|| shared.get_at_once()).flatten() {
-            return result(Some(PooledConnection::new(&self.inner, checkout)));
+            return result(Some(PooledConnection::new(&self.owner, checkout)));
         }
         let mut timer = pin!(None);
         let mut getting = Getting::new(shared);
@@ -90,17 +87,19 @@ impl<M: ManageConnection> Pool<M> {
                 Tried::Served => break getting.served(),
                 Tried::Taken => {}
                 Tried::TimedOut => match getting.time_out() {
-                    Ok(checkout) => break checkout,
-                    Err(_) => return result(None),
+                    Some(checkout) => break checkout,
+                    None => return result(None),
                 },
-                Tried::NoneIdle if shared.is_closed() => return Err(RunError::Closed),
+                Tried::NoneIdle | Tried::Refused if shared.is_closed() => {
+                    return Err(RunError::Closed)
+                }
                 Tried::NoneIdle => return result(None),
-                Tried::Refused => return Err(shared.refusal()),
+                Tried::Refused => return Err(RunError::Memory),
                 Tried::Exhausted => return Err(RunError::Exhausted),
             }
             let by_age = shared.has_ends.then(|| getting.check_age()).flatten();
-            let checked = match by_age {
-                Some(checked) => checked,
+            let passed = match by_age {
+                Some(passed) => passed,
                 None => {
                     let checked = {
                         let conn = &mut *getting.held.as_mut().expect(HOLDS).conn;
@@ -110,73 +109,60 @@ impl<M: ManageConnection> Pool<M> {
                     getting.conclude(checked, limit)
                 }
             };
-            match checked {
-                Checked::Passed => break getting.pass(),
-                Checked::Failed if !getting.is_over(limit) => {
-                    if shared.settings.test_timeout.is_some() {
-                        timer.set(None);
-                    }
-                    next_poll().await;
-                }
-                Checked::Failed | Checked::TimedOut => next = Some(Tried::TimedOut),
+            if passed {
+                break getting.pass();
             }
+            if getting.is_over(limit) {
+                next = Some(Tried::TimedOut);
+                continue;
+            }
+            if shared.settings.config.test_timeout.is_some() {
+                timer.set(None);
+            }
+            yield_now().await;
         };
-        result(Some(PooledConnection::new(&self.inner, checkout)))
+        result(Some(PooledConnection::new(&self.owner, checkout)))
     }
-}
-
-/// The outcome of a check.
-enum Checked {
-    Passed,
-    /// The connection is closed.
-    Failed,
-    /// The time of the get is over.
-    TimedOut,
 }
 
 const HOLDS: &str = "a get that checks holds a connection";
 
 /// How long a get may take, by the settings of its pool.
-pub(crate) trait Limit<M: ManageConnection>: Fn(&Builder<M>) -> Duration + Copy {}
+pub(crate) trait Limit: Fn(&Config) -> Duration + Copy {}
 
-impl<M: ManageConnection, F: Fn(&Builder<M>) -> Duration + Copy> Limit<M> for F {}
+impl<F: Fn(&Config) -> Duration + Copy> Limit for F {}
 
-/// Returns the timer of a get, which is only started here, when the get first has to wait. There is
-/// none if the deadline is later than any instant.
+/// Returns when a get has to end, or its check that begins now and has a limit. There is no such
+/// instant if it is too late.
 #[inline(always)]
-fn started<'t, M: ManageConnection>(
-    mut timer: Pin<&'t mut Option<Sleep>>,
+fn deadline(
     began: &mut Option<Instant>,
-    limit: impl Limit<M>,
-    shared: &Shared<M>,
-) -> Option<Pin<&'t mut Sleep>> {
+    limit: impl Limit,
+    config: &Config,
+    test_timeout: Option<Duration>,
+) -> Option<Instant> {
+    let began = *began.get_or_insert_with(Instant::now);
+    let get_ends = began.checked_add(limit(config));
+    let check_ends = test_timeout.and_then(|it| Instant::now().checked_add(it));
+    get_ends.into_iter().chain(check_ends).min()
+}
+
+/// Returns the timer of a get, which is only started here, when the get first has to wait.
+#[inline(always)]
+fn started(
+    mut timer: Pin<&mut Option<Sleep>>,
+    deadline: impl FnOnce() -> Option<Instant>,
+) -> Option<Pin<&mut Sleep>> {
     if timer.is_none() {
-        let began = *began.get_or_insert_with(Instant::now);
-        let deadline = began.checked_add(limit(&shared.settings))?;
-        timer.set(Some(sleep_until(deadline)));
+        timer.set(sleeping(deadline()?));
     }
     timer.as_pin_mut()
 }
 
-/// Starts the timer of a get anew if there is a `test_timeout`: it fires when the time of the check
-/// is over, or the time of the get.
-#[cold]
-fn limit_check<M: ManageConnection>(
-    mut timer: Pin<&mut Option<Sleep>>,
-    began: &mut Option<Instant>,
-    limit: impl Limit<M>,
-    shared: &Shared<M>,
-) {
-    let Some(test_timeout) = shared.settings.test_timeout else {
-        return;
-    };
-    let now = Instant::now();
-    let began = *began.get_or_insert(now);
-    let ends = [
-        now.checked_add(test_timeout),
-        began.checked_add(limit(&shared.settings)),
-    ];
-    timer.set(ends.into_iter().flatten().min().map(sleep_until));
+/// Returns a timer. A call of its own: otherwise the timer, of 640 bytes, is copied once more.
+#[inline(never)]
+fn sleeping(deadline: Instant) -> Option<Sleep> {
+    Some(sleep_until(deadline))
 }
 
 /// Resolves once the check does, or to `None` once its time is over. The check may use up the
@@ -186,17 +172,21 @@ fn in_time<'c, M: ManageConnection, T>(
     mut check: Pin<&'c mut impl Future<Output = T>>,
     mut timer: Pin<&'c mut Option<Sleep>>,
     began: &'c mut Option<Instant>,
-    limit: impl Limit<M> + 'c,
+    limit: impl Limit + 'c,
     shared: &'c Shared<M>,
 ) -> impl Future<Output = Option<T>> + 'c {
     let mut is_first = true;
     poll_fn(move |cx| match check.as_mut().poll(cx) {
         Poll::Ready(checked) => Poll::Ready(Some(checked)),
         Poll::Pending => {
-            if mem::take(&mut is_first) {
-                limit_check(timer.as_mut(), began, limit, shared);
+            let config = &shared.settings.config;
+            let test_timeout = config.test_timeout;
+            if mem::take(&mut is_first) && test_timeout.is_some() {
+                timer.set(None);
             }
-            match started(timer.as_mut(), began, limit, shared) {
+            match started(timer.as_mut(), || {
+                deadline(began, limit, config, test_timeout)
+            }) {
                 Some(timer) => pin!(unconstrained(timer)).poll(cx).map(|()| None),
                 None => Poll::Pending,
             }
@@ -221,7 +211,7 @@ impl<'a, M: ManageConnection> Getting<'a, M> {
     }
 
     /// Begins and tries if a connection is idle. Such a get does not wait, so its waker does not
-    /// matter, and its moment, that of `try_now`, only to whether the connection is checked.
+    /// matter, and its moment only decides whether the connection is checked.
     #[inline(always)]
     fn try_at_once(&mut self, at: u64) -> Option<Tried> {
         let mut locked = self.shared.lock();
@@ -232,10 +222,10 @@ impl<'a, M: ManageConnection> Getting<'a, M> {
         self.tried(locked, started, &mut None)
     }
 
-    /// As `try_at_once`, in any pool, and for a get that may have begun.
+    /// As `try_at_once`, for a get that may have begun.
     #[inline(never)]
     fn try_idle(&mut self) -> Option<Tried> {
-        let at = self.shared.try_now();
+        let at = self.shared.now_if(self.shared.checks == Checks::Stale);
         if self.stage == Stage::New {
             return self.try_at_once(at);
         }
@@ -255,7 +245,7 @@ impl<'a, M: ManageConnection> Getting<'a, M> {
         &mut self,
         cx: &mut Context<'_>,
         timer: Pin<&mut Option<Sleep>>,
-        limit: impl Limit<M>,
+        limit: impl Limit,
     ) -> Poll<Tried> {
         // Wakers are cloned and dropped, and the clock is read, outside of the lock.
         let mut waker = Some(cx.waker().clone());
@@ -266,7 +256,8 @@ impl<'a, M: ManageConnection> Getting<'a, M> {
         if let Some(tried) = tried {
             return Poll::Ready(tried);
         }
-        match started(timer, &mut self.began, limit, self.shared) {
+        let config = &self.shared.settings.config;
+        match started(timer, || deadline(&mut self.began, limit, config, None)) {
             Some(timer) => timer.poll(cx).map(|()| Tried::TimedOut),
             None => Poll::Pending,
         }
@@ -283,7 +274,8 @@ impl<'a, M: ManageConnection> Getting<'a, M> {
 
     /// Tries again. Returns `None` if the get waits.
     fn retry(&mut self, waker: &mut Option<Waker>) -> Option<Tried> {
-        let at = self.shared.retry_now();
+        // If a check follows, the moment at its end decides how long the get waited.
+        let at = self.shared.now_if(self.shared.checks != Checks::All);
         let _removed;
         let mut locked = self.shared.lock();
         if let Some(handed) = locked.waiters.take_handed(self.key) {
@@ -362,29 +354,28 @@ impl<'a, M: ManageConnection> Getting<'a, M> {
         }
     }
 
-    /// Checks the age of the connection that it holds, if connections have ends of their own.
+    /// Returns whether the connection that it holds is within its own end, and closes it if not.
     /// Returns `None` if the manager has to check it as well.
     #[cold]
-    fn check_age(&mut self) -> Option<Checked> {
-        let shared = self.shared;
-        if shared.is_past_end(&self.held.as_ref()?.conn) {
-            self.close_as(Fate::TooOld);
-            return Some(Checked::Failed);
+    fn check_age(&mut self) -> Option<bool> {
+        if self.shared.is_past_end(&self.held.as_ref()?.conn) {
+            self.close_as(MAX_LIFETIME);
+            return Some(false);
         }
-        let passed = !shared.settings.test_on_check_out;
-        passed.then_some(Checked::Passed)
+        (!self.shared.settings.config.test_on_check_out).then_some(true)
     }
 
-    /// Goes on after a check by the manager, or after none if its time was over.
+    /// Returns whether the check was passed, and closes the connection if not. There is no result
+    /// if a time was over; if it was that of the get, the get ends next.
     #[inline(always)]
-    fn conclude(&mut self, checked: Option<Result<(), M::Error>>, limit: impl Limit<M>) -> Checked {
+    fn conclude(&mut self, checked: Option<Result<(), M::Error>>, limit: impl Limit) -> bool {
         match checked {
-            Some(Ok(())) => return Checked::Passed,
+            Some(Ok(())) => return true,
             Some(Err(error)) => self.close(Some(error)),
-            None if self.is_over(limit) => return Checked::TimedOut,
+            None if self.is_over(limit) => {}
             None => self.close(None),
         }
-        Checked::Failed
+        false
     }
 
     /// Ends as served. The core knows that already.
@@ -395,12 +386,13 @@ impl<'a, M: ManageConnection> Getting<'a, M> {
         ended.held.take().expect(HOLDS)
     }
 
-    /// Is served with the connection that it holds, which passed its check.
+    /// Is served with the connection, which passed its check.
     #[inline(always)]
     fn pass(self) -> Checkout<M::Connection> {
         let mut ended = ManuallyDrop::new(self);
         let shared = ended.shared;
-        let at = shared.passed_now(ended.stage == Stage::Waited);
+        // The moment only matters for how long the get waited.
+        let at = shared.now_if(ended.stage == Stage::Waited);
         let mut checkout = ended.held.take().expect(HOLDS);
         let mut locked = shared.lock();
         let passed = locked
@@ -416,32 +408,31 @@ impl<'a, M: ManageConnection> Getting<'a, M> {
     }
 
     /// Whether its time is over.
-    fn is_over(&mut self, limit: impl Limit<M>) -> bool {
+    fn is_over(&mut self, limit: impl Limit) -> bool {
         let began = *self.began.get_or_insert_with(Instant::now);
-        began.elapsed() >= limit(&self.shared.settings)
+        began.elapsed() >= limit(&self.shared.settings.config)
     }
 
     /// Ends because its time is over, unless it was served since its last try.
     #[cold]
     #[inline(never)]
-    pub(crate) fn time_out(&mut self) -> Result<Checkout<M::Connection>, RunError<M::Error>> {
-        self.end(Reason::TimedOut).ok_or(RunError::TimedOut)
+    pub(crate) fn time_out(&mut self) -> Option<Checkout<M::Connection>> {
+        self.end(Reason::TimedOut)
     }
 
-    /// Closes the connection that it holds, whose check failed with this error, or took longer than
-    /// the `test_timeout`.
+    /// Closes the connection, whose check failed with this error, or took too long.
     #[cold]
     fn close(&mut self, error: Option<M::Error>) {
         if error.is_none() {
             self.shared.lock().counts.checks_timed_out += 1;
         }
         self.shared.check_failed(error.as_ref());
-        self.close_as(Fate::Invalid);
+        self.close_as(FAILED_CHECK);
         self.shared.forward(error);
     }
 
-    /// Closes the connection that it holds as one whose check failed.
-    fn close_as(&mut self, fate: Fate) {
+    /// Closes the connection as one whose check failed.
+    fn close_as(&mut self, reason: &'static str) {
         let Some(checkout) = self.held.take() else {
             return;
         };
@@ -449,18 +440,22 @@ impl<'a, M: ManageConnection> Getting<'a, M> {
         let step = |core: &mut Core<_>, at, key: Key, conn, broken| {
             after(core.checked_err(at, get, conn, broken, key.place))
         };
+        let fate = Fate::Closed(reason);
         self.shared.take_back(checkout, fate, Shared::now, step);
     }
 
-    /// Ends without a connection, unless it was served since its last try: then it returns the
-    /// connection. One whose check is cut off by that is closed.
+    /// Ends without a connection, unless it was served since its last try. If that cuts off a
+    /// check, the connection is closed.
     #[inline(always)]
     fn end(&mut self, reason: Reason) -> Option<Checkout<M::Connection>> {
         let mut fate = Fate::CutOff;
         if self.held.is_none() {
-            let at = self.shared.given_up_now(reason);
+            let shared = self.shared;
+            // Of a cancelled get the moment only matters for how long others have waited.
+            let matters = matches!(reason, Reason::TimedOut) || shared.fair_after.is_some();
+            let at = shared.now_if(matters);
             let _removed;
-            let mut locked = self.shared.lock();
+            let mut locked = shared.lock();
             let Some(handed) = locked.waiters.take_handed(self.key) else {
                 _removed = locked.waiters.remove(self.key);
                 self.stage = Stage::Ended;
@@ -506,18 +501,4 @@ impl<M: ManageConnection> Drop for Getting<'_, M> {
             self.shared.put_back(checkout);
         }
     }
-}
-
-/// Resolves at the next poll, which it requests at once, so that this poll ends.
-async fn next_poll() {
-    let mut asked = false;
-    poll_fn(|cx| {
-        if asked {
-            return Poll::Ready(());
-        }
-        asked = true;
-        cx.waker().wake_by_ref();
-        Poll::Pending
-    })
-    .await;
 }

@@ -1,4 +1,7 @@
 #![doc = include_str!("../README.md")]
+//! # A service
+//!
+#![doc = concat!("```\n", include_str!("../examples/workers.rs"), "```")]
 #![deny(missing_docs, missing_debug_implementations)]
 #![forbid(unsafe_code)]
 

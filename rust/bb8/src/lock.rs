@@ -10,11 +10,9 @@ use std::hint::spin_loop;
 
 /// A lock without poisoning. No user code runs while it is held: no manager, no destructor of a
 /// connection, no waker. The core is proved not to panic. So a panic under the lock is a bug of
-/// this crate that one of its assertions has found, before a connection was checked out or a slot
-/// freed: a connection may leak, but none is checked out twice.
+/// this crate that an assertion found: a connection may leak, but none is checked out twice.
 ///
-/// The alignment keeps the lock out of the cache lines of the fields next to it, which are read
-/// without it.
+/// The alignment keeps the lock out of the cache lines of fields that are read without it.
 #[repr(align(128))]
 pub(crate) struct Mutex<T>(implementation::Mutex<T>);
 
@@ -29,8 +27,7 @@ impl<T> Mutex<T> {
     }
 
     /// Tries again after longer and longer pauses, of some dozens of microseconds in total, before
-    /// it parks the thread. A step is far shorter than a system call, and a thread that makes many
-    /// steps in a row has the locked data in its cache.
+    /// it parks the thread: a step is far shorter than a system call.
     #[cold]
     fn lock_taken(&self) -> MutexGuard<'_, T> {
         for turns in [4, 16, 64, 256, 1024, 1024] {

@@ -11,34 +11,29 @@ pub trait ManageConnection: Sized + Send + Sync + 'static {
     /// The error of a connection that could not be opened or is not valid.
     type Error: fmt::Debug + Send + 'static;
 
-    /// Opens a connection.
-    ///
-    /// After an error the pool retries if [`Builder::retry_connection`] is set.
-    ///
-    /// [`Builder::retry_connection`]: crate::Builder::retry_connection
+    /// Opens a connection. After an error the pool retries if
+    /// [`Builder::retry_connection`](crate::Builder::retry_connection) is set.
     fn connect(&self) -> impl Future<Output = Result<Self::Connection, Self::Error>> + Send;
 
-    /// Checks a connection before it is checked out, if [`Builder::test_on_check_out`] is set.
+    /// Checks a connection before it is checked out, if
+    /// [`Builder::test_on_check_out`](crate::Builder::test_on_check_out) is set.
+    /// [`Builder::test_timeout`](crate::Builder::test_timeout) limits its time.
     ///
-    /// After an error the connection is closed, and the get tries another one. If a check is cut
-    /// off, because its get times out or is dropped, the connection is closed, too, as nobody knows
-    /// what the server will send next. [`Builder::test_timeout`] limits the time of a check.
-    ///
-    /// [`Builder::test_on_check_out`]: crate::Builder::test_on_check_out
-    /// [`Builder::test_timeout`]: crate::Builder::test_timeout
+    /// After an error the connection is closed, and the get tries another one. If the check is cut
+    /// off, because its get times out or is cancelled, the connection is closed, too, as nobody
+    /// knows what the server will send next.
     fn is_valid(
         &self,
         conn: &mut Self::Connection,
     ) -> impl Future<Output = Result<(), Self::Error>> + Send;
 
-    /// Returns whether a connection is known to be broken. This should not block. The pool calls it
-    /// for each connection that is returned or added. It closes a returned connection that is
-    /// broken or for which this panics, and does not add a broken one.
+    /// Returns whether a connection is known to be broken, without blocking. The pool calls it for
+    /// each connection that is returned or added. It closes a returned connection that is broken or
+    /// for which this panics, and does not add a broken one.
     fn has_broken(&self, conn: &mut Self::Connection) -> bool;
 }
 
-/// Prepares each connection that a pool opens, before its first use, and looks at each that is
-/// returned.
+/// Prepares each connection that a pool opens, and inspects each that is returned.
 pub trait CustomizeConnection<C: Send + 'static, E: 'static>:
     fmt::Debug + Send + Sync + 'static
 {
@@ -51,21 +46,20 @@ pub trait CustomizeConnection<C: Send + 'static, E: 'static>:
         Box::pin(async { Ok(()) })
     }
 
-    /// Looks at a connection that a guard returns, and returns whether the pool keeps it. By
+    /// Inspects a connection that a guard returns, and returns whether the pool keeps it. By
     /// default every connection is kept.
     ///
-    /// It is called when a guard is dropped, unless [`ManageConnection::has_broken`] returned true,
-    /// and not for connections that no guard had. It should not block. A connection for which it
-    /// returns false or panics is closed, and counts in `connections_closed_broken`.
+    /// It is called when a guard is dropped, unless [`ManageConnection::has_broken`] returned true.
+    /// It should not block. A connection for which it returns false or panics is closed, and counts
+    /// in `connections_closed_broken`.
     ///
     /// # Examples
-    ///
-    /// Each connection is used at most twice:
     ///
     /// ```
     /// use bb8::{CustomizeConnection, Pool};
     /// # include!(concat!(env!("CARGO_MANIFEST_DIR"), "/tests/common/numbers.rs"));
     ///
+    /// /// Keeps each connection for two uses.
     /// #[derive(Debug)]
     /// struct Twice;
     ///
@@ -76,8 +70,7 @@ pub trait CustomizeConnection<C: Send + 'static, E: 'static>:
     ///     }
     /// }
     ///
-    /// # #[tokio::main]
-    /// # async fn main() {
+    /// # #[tokio::main] async fn main() {
     /// let builder = Pool::builder().connection_customizer(Box::new(Twice));
     /// let pool = builder.build(Numbers::default()).await.unwrap();
     /// for idle in [1, 0] {

@@ -19,8 +19,8 @@ pub(crate) struct Claimed<C> {
     reserved: Reserved<C>,
 }
 
-/// A connection attempt in progress. It does not keep the pool open. If it is dropped before it
-/// ended, because its runtime shuts down, another one takes over its approval.
+/// A connection attempt in progress. It does not keep the pool open. If its runtime shuts down,
+/// another one takes over its approval.
 pub(crate) struct Opening<M: ManageConnection> {
     shared: Arc<Shared<M>>,
     claimed: Option<Claimed<M::Connection>>,
@@ -51,7 +51,7 @@ impl<M: ManageConnection> Opening<M> {
             return None;
         };
         let at = shared.now();
-        let approval = shared.lock().claim(at, shared.settings.max_size)?;
+        let approval = shared.lock().claim(at, shared.settings.config.max_size)?;
         Some(Opening::new(shared, Claimed { approval, reserved }))
     }
 
@@ -61,11 +61,11 @@ impl<M: ManageConnection> Opening<M> {
         Opening::new(shared, claimed)
     }
 
-    /// Opens the connection. After an error it tries again: as long as there is time for it, and
-    /// after that as long as a get waits. An attempt may take as long as the limit. Returns the
-    /// error of the last one, or `None` if that took too long.
+    /// Opens the connection. After an error it tries again as long as there is time, and then as
+    /// long as a get waits. Each try may take as long as the limit. Returns the last error, or
+    /// `None` if the last try took too long.
     pub(crate) async fn run(mut self, limit: Duration) -> Result<(), Option<M::Error>> {
-        let settings = &self.shared.clone().settings;
+        let config = &self.shared.clone().settings.config;
         let start = Instant::now();
         self.has_begun = true;
         loop {
@@ -82,8 +82,8 @@ impl<M: ManageConnection> Opening<M> {
             };
             self.shared.lock().counts.failed += 1;
             self.shared.attempt_failed(error.as_ref());
-            let has_time = start.elapsed() <= settings.connection_timeout;
-            let retries = settings.retry_connection && has_time && !self.shared.is_closed();
+            let has_time = start.elapsed() <= config.connection_timeout;
+            let retries = config.retry_connection && has_time && !self.shared.is_closed();
             if !retries && !self.goes_on() {
                 return Err(error);
             }
@@ -92,15 +92,12 @@ impl<M: ManageConnection> Opening<M> {
         }
     }
 
-    /// As `run`, for a task of its own: it ends when the pool is closed, and the last error, too,
-    /// goes to the error sink.
+    /// As `run`, in a task of its own: it ends when the pool is closed, and reports the last error.
     pub(crate) async fn run_alone(self) {
         let shared = self.shared.clone();
-        let settings = &shared.settings;
-        let limit = settings
-            .connect_timeout
-            .unwrap_or(settings.connection_timeout);
-        let closed = pin!(shared.until_closed());
+        let config = &shared.settings.config;
+        let limit = config.connect_timeout.unwrap_or(config.connection_timeout);
+        let closed = pin!(shared.reached(|locked| locked.is_closed()));
         let run = pin!(self.run(limit));
         if let Either::Right((Err(error), _)) = select(closed, run).await {
             shared.forward(error);
@@ -109,13 +106,13 @@ impl<M: ManageConnection> Opening<M> {
 
     /// Makes the pause before the next try longer. It is never zero, so that other tasks run.
     fn back_off(&mut self) {
-        let longest = self.shared.settings.connection_timeout / 2;
+        let longest = self.shared.settings.config.connection_timeout / 2;
         let longer = self.wait.max(SHORTEST).saturating_mul(2);
         self.wait = longer.min(longest).max(Duration::from_millis(1));
     }
 
     /// Gives back the approval, and asks for another one if a get waits. Returns whether this goes
-    /// on for that one. So the pauses do not begin anew.
+    /// on for that one, so that the pauses do not begin anew.
     fn goes_on(&mut self) -> bool {
         let Some(Claimed { approval, reserved }) = self.claimed.take() else {
             return false;
@@ -126,7 +123,7 @@ impl<M: ManageConnection> Opening<M> {
         let granted = locked.core.ask(Moment(at)).count;
         let approval = match granted {
             0 => None,
-            _ => locked.claim(at, self.shared.settings.max_size),
+            _ => locked.claim(at, self.shared.settings.config.max_size),
         };
         drop(locked);
         self.shared.closing.notify_waiters();
@@ -150,7 +147,9 @@ impl<M: ManageConnection> Opening<M> {
         }
     }
 
-    /// Hands the connection to the pool, which closes it if there is no handle any more.
+    /// Hands the connection to the pool, which closes it if it was retired before it was opened, or
+    /// if there is no handle any more. Then others are opened for gets that wait, and for
+    /// `min_idle`.
     fn enter(&mut self, conn: M::Connection) {
         let Some(Claimed { approval, reserved }) = self.claimed.take() else {
             return;
@@ -161,8 +160,11 @@ impl<M: ManageConnection> Opening<M> {
         self.shared.set_end(&mut conn, at);
         let mut locked = self.shared.lock();
         locked.pending -= 1;
-        let entered = locked.core.opened(Moment(at), approval, Some(conn));
-        self.shared.settle(locked, at, after(entered));
+        let mut entered = after(locked.core.opened(Moment(at), approval, Some(conn)));
+        if let Some(late) = entered.as_mut().filter(|it| it.closed.is_some()) {
+            late.grants = locked.ask_anew(at);
+        }
+        self.shared.settle(locked, at, entered);
     }
 }
 
@@ -192,12 +194,19 @@ impl<C> Locked<C> {
             unfit();
         }
     }
+
+    /// Asks for what an attempt did not bring: connections for gets that wait, and for `min_idle`.
+    /// Returns whether some are to be opened. In a closed pool none are.
+    fn ask_anew(&mut self, at: u64) -> bool {
+        let filled = self.core.fill(Moment(at), false).count;
+        filled + self.core.ask(Moment(at)).count > 0
+    }
 }
 
 impl<M: ManageConnection> Shared<M> {
-    /// Leaves an approval to the next task that makes a step inside of a runtime. Waiting gets make
-    /// none, so all are woken, as the runtimes of some may have shut down, too. In a closed pool,
-    /// and if memory is refused, the approval is given back.
+    /// Leaves an approval to the next task that makes a step inside of a runtime. So that there is
+    /// one, all waiting gets are woken: some may be in other runtimes. In a closed pool, and if
+    /// memory is refused, the approval is given back.
     fn hand_on(&self, claimed: Claimed<M::Connection>) {
         let at = self.now();
         let mut locked = self.lock();

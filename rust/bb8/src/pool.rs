@@ -1,5 +1,5 @@
-//! The pool behind its handles: a lock around the core and the waiters, and what acquires it, apart
-//! from gets and connection attempts.
+//! What the handles of a pool share: a lock around the core and the waiters, and what acquires it,
+//! apart from gets and connection attempts.
 
 use crate::boxed::{Boxed, Reserved};
 use crate::builder::Builder;
@@ -7,7 +7,7 @@ use crate::core::{
     self, unfit, AddAnswer, AtOnce, Checkout, ClaimAnswer, ClosedList, Core, GetKey, Held, Key,
     Moment, ReapAnswer, TryAnswer,
 };
-use crate::errors::{AddError, RunError};
+use crate::errors::AddError;
 use crate::events::{CLOSED, IDLE_TIMEOUT, RETIRED};
 use crate::figures::State;
 use crate::lock::{Mutex, MutexGuard};
@@ -30,7 +30,7 @@ use tokio::time::{interval_at, sleep, Instant, Interval, MissedTickBehavior};
 /// What the lock protects.
 pub(crate) struct Locked<C> {
     pub(crate) core: Core<C>,
-    /// The connections that a step closed all at once, until they are dropped outside of the lock.
+    /// The connections that a step closed all at once, until they are dropped.
     closed: ClosedList<Held<C>>,
     pub(crate) waiters: Waiters<C>,
     /// Whether connections are left to be opened, because memory, a runtime or a slot was missing.
@@ -56,9 +56,8 @@ pub(crate) struct Counts {
 type Sweep<C> = fn(&mut Core<C>, Moment, &mut ClosedList<Held<C>>) -> ReapAnswer;
 
 impl<C> Locked<C> {
-    /// Hands an idle connection to a notified get, in the critical section that notified it, so
-    /// that no other get comes in between. Returns its waker, and whether connections are to be
-    /// opened.
+    /// Hands an idle connection to a notified get, in the critical section that notified it.
+    /// Returns its waker, and whether connections are to be opened.
     pub(crate) fn hand_off(&mut self, at: u64, get: GetKey) -> (Option<Waker>, bool) {
         let (key, conn, grant, served) = match self.core.try_get(Moment(at), get) {
             Ok(TryAnswer::Served(key, conn, grant)) => (key, conn, grant, true),
@@ -70,21 +69,11 @@ impl<C> Locked<C> {
         (waker, grant.count > 0)
     }
 
-    /// Makes room in the list of closed connections for so many more, if memory is granted.
-    fn has_room(&mut self, more: u32) -> bool {
-        self.closed.grow(self.closed.len() + more as usize).is_ok()
-    }
-
-    /// Reaps or retires, which closes idle connections. Returns whether connections are to be
-    /// opened. If memory for the list of closed connections is refused, nothing changes.
-    fn sweep(&mut self, at: u64, sweep: Sweep<C>) -> bool {
-        if !self.has_room(self.core.idle()) {
-            return self.unopened;
-        }
-        match sweep(&mut self.core, Moment(at), &mut self.closed) {
-            ReapAnswer::Reaped { grant, .. } => grant.count > 0 || self.unopened,
-            ReapAnswer::Ended => self.unopened,
-        }
+    /// Makes room in the list of closed connections for those that are idle. Returns false if
+    /// memory is refused.
+    fn has_room(&mut self) -> bool {
+        let more = self.core.idle() as usize;
+        self.closed.grow(self.closed.len() + more).is_ok()
     }
 
     /// Whether the pool is closed, or has no handle any more, which is the same to the core.
@@ -96,14 +85,11 @@ impl<C> Locked<C> {
     /// Closes the pool, and with it the idle connections. Returns false if memory for the list of
     /// closed connections is refused: then nothing changes.
     fn close(&mut self, at: u64) -> bool {
-        if self.is_closed() {
-            return true;
-        }
-        let has_room = self.has_room(self.core.idle());
-        if has_room {
+        let closes = !self.is_closed() && self.has_room();
+        if closes {
             self.core.close_into(Moment(at), &mut self.closed);
         }
-        has_room
+        closes || self.is_closed()
     }
 
     /// Whether no connection is left, none is being dropped, and no attempt is in progress.
@@ -120,20 +106,13 @@ impl<C> Locked<C> {
         closed.conn
     }
 
-    /// Notes that a closed connection was dropped. Returns whether connections are left to be
-    /// opened.
-    pub(crate) fn is_dropped(&mut self) -> bool {
-        self.dropping -= 1;
-        self.unopened
-    }
-
     /// Whether closed connections, whose slots are free in the core, are not dropped yet.
     pub(crate) fn is_dropping(&self) -> bool {
         self.dropping > 0 || self.closed.len() > 0
     }
 
-    /// Claims an approval, so that one more connection may be opened. Until closed connections are
-    /// dropped, they count as well, so that no more than `max_size` are ever alive.
+    /// Claims an approval, so that one more connection may be opened. Closed connections count
+    /// until they are dropped, so that no more than `max_size` are ever alive.
     pub(crate) fn claim(&mut self, at: u64, max_size: u32) -> Option<Key> {
         if self.is_dropping() {
             let alive = self.core.state(Moment(at)).connections + self.pending + self.dropping;
@@ -150,15 +129,13 @@ impl<C> Locked<C> {
     }
 }
 
-/// What the handles, gets and openings of a pool share.
+/// What the handles, gets and connection attempts of a pool share.
 pub(crate) struct Shared<M: ManageConnection> {
     pub(crate) settings: Builder<M>,
     pub(crate) manager: M,
     /// The moment from which the core's moments count.
     pub(crate) started: Instant,
-    /// Whether what comes back needs the moment: an age is limited, or fresh connections are not
-    /// checked, so that the core needs to know when something becomes idle; or it is to be told how
-    /// long a get has waited.
+    /// Whether the core needs the moment of a return: for ages, or for how long a get has waited.
     pub(crate) dates_returns: bool,
     pub(crate) checks: Checks,
     /// Whether each connection has an end of its own.
@@ -173,6 +150,34 @@ pub(crate) struct Shared<M: ManageConnection> {
 }
 
 impl<M: ManageConnection> Shared<M> {
+    /// What a pool with these settings shares, which the builder has tested.
+    fn new(settings: Builder<M>, manager: M) -> Self {
+        let config = &settings.config;
+        let hands_off = config.fair_after.is_some();
+        let checks = config.checks();
+        Shared {
+            started: Instant::now(),
+            dates_returns: config.has_limits() || hands_off || checks == Checks::Stale,
+            checks,
+            has_ends: config.has_ends(),
+            inspects: config.has_ends() || settings.connection_customizer.is_some(),
+            fair_after: config.fair_after.map(nanoseconds),
+            closing: Notify::new(),
+            locked: Mutex::new(Locked {
+                core: core::core(config),
+                closed: ClosedList::new(Global),
+                waiters: Waiters::new(hands_off),
+                unopened: false,
+                cut_off: Vec::new(),
+                pending: 0,
+                dropping: 0,
+                counts: Counts::default(),
+            }),
+            settings,
+            manager,
+        }
+    }
+
     #[inline]
     pub(crate) fn lock(&self) -> MutexGuard<'_, Locked<M::Connection>> {
         self.locked.lock()
@@ -180,7 +185,7 @@ impl<M: ManageConnection> Shared<M> {
 
     /// Gives a new connection an end of its own, if connections have one.
     pub(crate) fn set_end(&self, conn: &mut Boxed<M::Connection>, at: u64) {
-        if let Some(life) = self.settings.life() {
+        if let Some(life) = self.settings.config.life() {
             conn.set_end(at.saturating_add(nanoseconds(life)));
         }
     }
@@ -188,16 +193,6 @@ impl<M: ManageConnection> Shared<M> {
     /// Whether a connection is past its own end.
     pub(crate) fn is_past_end(&self, conn: &Boxed<M::Connection>) -> bool {
         self.has_ends && self.now() >= conn.end()
-    }
-
-    /// Why a get was refused.
-    #[cold]
-    pub(crate) fn refusal(&self) -> RunError<M::Error> {
-        if self.is_closed() {
-            RunError::Closed
-        } else {
-            RunError::Memory
-        }
     }
 
     pub(crate) fn state(&self) -> State {
@@ -241,6 +236,99 @@ impl<M: ManageConnection> Shared<M> {
         Some(Checkout::new(key, conn))
     }
 
+    /// Opens the first connections. Each attempt may take any time, as `build` has no error for one
+    /// that takes too long.
+    pub(crate) async fn start(self: &Arc<Self>) -> Result<(), M::Error> {
+        let at = self.now();
+        self.lock().core.fill(Moment(at), false);
+        let attempts = iter::from_fn(|| Opening::claim(self)).map(|it| it.run(Duration::MAX));
+        let mut attempts: FuturesUnordered<_> = attempts.collect();
+        while let Some(opened) = attempts.next().await {
+            if let Err(Some(error)) = opened {
+                return Err(error);
+            }
+        }
+        Ok(())
+    }
+
+    /// Opens the first connections in the background.
+    pub(crate) fn spawn_start(self: &Arc<Self>) {
+        let at = self.now();
+        self.lock().core.fill(Moment(at), false);
+        self.open();
+    }
+
+    pub(crate) fn add(
+        self: &Arc<Self>,
+        mut conn: M::Connection,
+    ) -> Result<(), AddError<M::Connection>> {
+        let broken = self.manager.has_broken(&mut conn);
+        let Some(reserved) = Reserved::new() else {
+            return Err(if broken {
+                AddError::Broken(conn)
+            } else {
+                AddError::Withheld(conn)
+            });
+        };
+        let mut conn = reserved.fill(conn);
+        let at = self.now();
+        self.set_end(&mut conn, at);
+        let mut locked = self.lock();
+        let (refused, conn): (fn(_) -> _, _) = match locked.core.add(Moment(at), Some(conn), broken)
+        {
+            Ok(AddAnswer::Added(_, notified)) => {
+                locked.counts.added += 1;
+                self.settle(locked, at, core::kept(notified));
+                return Ok(());
+            }
+            Ok(AddAnswer::Broken(conn)) => (AddError::Broken, conn),
+            Ok(AddAnswer::NoCapacity(conn)) => (AddError::NoCapacity, conn),
+            Ok(AddAnswer::Withheld(conn)) => (AddError::Withheld, conn),
+            // The pool is closed.
+            Err(conn) if broken => (AddError::Broken, conn),
+            Err(conn) => (AddError::NoCapacity, conn),
+        };
+        drop(locked);
+        match conn {
+            Some(conn) => Err(refused(Boxed::into_inner(conn))),
+            None => unreachable!("the core returns what it was handed"),
+        }
+    }
+
+    /// Reaps. If memory to list the connections is refused, the next reap closes them.
+    pub(crate) fn reap(self: &Arc<Self>) {
+        // The panic hook has reported panics there. They do not end the reaper.
+        let _panicked = self.sweep(Core::reap_into, IDLE_TIMEOUT);
+    }
+
+    /// Retires all connections. If memory to list the idle ones is refused, nothing changes.
+    pub(crate) fn retire(self: &Arc<Self>) {
+        resume(self.sweep(Core::retire_into, RETIRED));
+    }
+
+    /// Reaps or retires, drops the closed connections, and opens others. Returns the first panic of
+    /// a destructor.
+    fn sweep(
+        self: &Arc<Self>,
+        sweep: Sweep<M::Connection>,
+        reason: &str,
+    ) -> Result<(), Box<dyn Any + Send>> {
+        let at = self.now();
+        let mut locked = self.lock();
+        if locked.has_room() {
+            let locked = &mut *locked;
+            let answer = sweep(&mut locked.core, Moment(at), &mut locked.closed);
+            locked.unopened |=
+                matches!(answer, ReapAnswer::Reaped { grant, .. } if grant.count > 0);
+        }
+        drop(locked);
+        let dropped = self.drop_closed(reason);
+        if self.lock().unopened {
+            self.open();
+        }
+        dropped
+    }
+
     pub(crate) fn is_closed(&self) -> bool {
         self.lock().is_closed()
     }
@@ -261,8 +349,16 @@ impl<M: ManageConnection> Shared<M> {
         is_closed
     }
 
+    /// Closes the pool, and resolves once nothing of it is left.
+    pub(crate) async fn close_and_wait(&self) {
+        while !self.close() {
+            sleep(Duration::from_millis(1)).await;
+        }
+        self.reached(Locked::is_empty).await;
+    }
+
     /// Resolves once the condition holds. It can begin to hold only before `closing` notifies.
-    async fn reached(&self, condition: fn(&mut Locked<M::Connection>) -> bool) {
+    pub(crate) async fn reached(&self, condition: fn(&mut Locked<M::Connection>) -> bool) {
         loop {
             let notified = self.closing.notified();
             if condition(&mut self.lock()) {
@@ -272,47 +368,59 @@ impl<M: ManageConnection> Shared<M> {
         }
     }
 
-    /// Resolves once the pool is closed.
-    pub(crate) async fn until_closed(&self) {
-        self.reached(|locked| locked.is_closed()).await;
-    }
-
-    /// Resolves once nothing of a closed pool is left.
-    pub(crate) async fn until_empty(&self) {
-        self.reached(Locked::is_empty).await;
-    }
-
-    /// Opens connections for all approvals whose attempts were cut off, and for all that are
-    /// unclaimed, each in a task of its own. A runtime that shuts down drops such a task at once,
-    /// which cuts its attempt off anew: so those that were cut off before are taken in one piece.
+    /// Opens connections for all approvals that are unclaimed, or whose attempts were cut off, each
+    /// in a task of its own. A runtime that shuts down drops such a task at once, which cuts its
+    /// attempt off anew: so those that were cut off before are taken in one piece.
     #[cold]
     pub(crate) fn open(self: &Arc<Self>) {
         let Ok(runtime) = Handle::try_current() else {
             self.lock().unopened = true;
             return;
         };
-        let again = {
+        let mut cut_off = Vec::new();
+        {
             let mut locked = self.lock();
             locked.unopened = locked.is_dropping() && !locked.cut_off.is_empty();
-            if locked.unopened {
-                Vec::new()
-            } else {
-                mem::take(&mut locked.cut_off)
+            if !locked.unopened {
+                mem::swap(&mut cut_off, &mut locked.cut_off);
             }
-        };
-        let mut again = again.into_iter();
-        let next = || again.next().map(|claimed| Opening::again(self, claimed));
-        for opening in iter::from_fn(next).chain(iter::from_fn(|| Opening::claim(self))) {
+        }
+        let again = cut_off.into_iter().map(|it| Opening::again(self, it));
+        for opening in again.chain(iter::from_fn(|| Opening::claim(self))) {
             runtime.spawn(opening.run_alone());
         }
     }
 }
 
-/// The one handle that the core counts. All handles of the pool share it. When it is dropped, the
-/// pool is closed, unless it is already. If memory to list the idle connections is refused, they
-/// are dropped with the last connection attempt in progress.
-struct Owner<M: ManageConnection> {
-    shared: Arc<Shared<M>>,
+/// Goes on after destructors of connections.
+pub(crate) fn resume(dropped: Result<(), Box<dyn Any + Send>>) {
+    match dropped {
+        // Beside another panic it would end the process.
+        Err(panicked) if !thread::panicking() => resume_unwind(panicked),
+        _ => {}
+    }
+}
+
+/// Closes the pool when its last handle is dropped: all handles share this. If memory to list the
+/// idle connections is refused, they are dropped with the last connection attempt.
+pub(crate) struct Owner<M: ManageConnection> {
+    pub(crate) shared: Arc<Shared<M>>,
+}
+
+impl<M: ManageConnection> Owner<M> {
+    /// Makes a pool of settings that the builder has tested. It reaps if an age is limited.
+    pub(crate) fn new(settings: Builder<M>, manager: M) -> Arc<Self> {
+        let has_limits = settings.config.has_limits();
+        let rate = settings.config.reaper_rate;
+        let shared = Arc::new(Shared::new(settings, manager));
+        let owner = Arc::new(Owner { shared });
+        if has_limits {
+            let mut ticks = interval_at(owner.shared.started + rate, rate);
+            ticks.set_missed_tick_behavior(MissedTickBehavior::Skip);
+            tokio::spawn(reap(ticks, Arc::downgrade(&owner)));
+        }
+        owner
+    }
 }
 
 impl<M: ManageConnection> Drop for Owner<M> {
@@ -321,203 +429,13 @@ impl<M: ManageConnection> Drop for Owner<M> {
     }
 }
 
-/// Goes on after destructors of connections.
-fn resume(dropped: Result<(), Box<dyn Any + Send>>) {
-    match dropped {
-        // Beside another panic it would end the process.
-        Err(panicked) if !thread::panicking() => resume_unwind(panicked),
-        _ => {}
-    }
-}
-
-pub(crate) struct PoolInner<M: ManageConnection> {
-    owner: Arc<Owner<M>>,
-}
-
-impl<M: ManageConnection> Clone for PoolInner<M> {
-    fn clone(&self) -> Self {
-        PoolInner {
-            owner: self.owner.clone(),
-        }
-    }
-}
-
-impl<M: ManageConnection> PoolInner<M> {
-    /// A pool of settings that the builder has tested. It reaps, where an age is limited.
-    pub(crate) fn new(settings: Builder<M>, manager: M) -> Self {
-        let core = core::core(&settings);
-        let started = Instant::now();
-        let hands_off = settings.fair_after.is_some();
-        let has_limits = settings.has_limits();
-        let checks = settings.checks();
-        let rate = settings.reaper_rate;
-        let shared = Arc::new(Shared {
-            dates_returns: has_limits || hands_off || checks == Checks::Stale,
-            checks,
-            has_ends: settings.has_ends(),
-            inspects: settings.has_ends() || settings.connection_customizer.is_some(),
-            fair_after: settings.fair_after.map(nanoseconds),
-            settings,
-            manager,
-            started,
-            closing: Notify::new(),
-            locked: Mutex::new(Locked {
-                core,
-                closed: ClosedList::new(Global),
-                waiters: Waiters::new(hands_off),
-                unopened: false,
-                cut_off: Vec::new(),
-                pending: 0,
-                dropping: 0,
-                counts: Counts::default(),
-            }),
-        });
-        let owner = Arc::new(Owner { shared });
-        if has_limits {
-            let mut ticks = interval_at(started + rate, rate);
-            ticks.set_missed_tick_behavior(MissedTickBehavior::Skip);
-            tokio::spawn(reap(ticks, Arc::downgrade(&owner)));
-        }
-        PoolInner { owner }
-    }
-
-    #[inline]
-    pub(crate) fn shared(&self) -> &Arc<Shared<M>> {
-        &self.owner.shared
-    }
-
-    pub(crate) fn settings(&self) -> &Builder<M> {
-        &self.shared().settings
-    }
-
-    pub(crate) async fn connect(&self) -> Result<M::Connection, M::Error> {
-        self.shared().connect().await
-    }
-
-    fn fill(&self) {
-        let shared = self.shared();
-        let at = shared.now();
-        shared.lock().core.fill(Moment(at), false);
-    }
-
-    /// Opens the first connections. Each attempt may take any time, as `build` has no error for one
-    /// that takes too long.
-    pub(crate) async fn start(&self) -> Result<(), M::Error> {
-        self.fill();
-        let mut openings = FuturesUnordered::new();
-        while let Some(opening) = Opening::claim(self.shared()) {
-            openings.push(opening.run(Duration::MAX));
-        }
-        while let Some(opened) = openings.next().await {
-            if let Err(Some(error)) = opened {
-                return Err(error);
-            }
-        }
-        Ok(())
-    }
-
-    /// Has the first connections opened.
-    pub(crate) fn spawn_start(&self) {
-        self.fill();
-        self.shared().open();
-    }
-
-    #[inline]
-    pub(crate) fn put_back(&self, checkout: Checkout<M::Connection>) {
-        self.shared().release(checkout);
-    }
-
-    /// Closes the pool, and resolves once nothing of it is left.
-    pub(crate) async fn close(&self) {
-        while !self.shared().close() {
-            sleep(Duration::from_millis(1)).await;
-        }
-        self.shared().until_empty().await;
-    }
-
-    pub(crate) fn add(&self, mut conn: M::Connection) -> Result<(), AddError<M::Connection>> {
-        let shared = self.shared();
-        let broken = shared.manager.has_broken(&mut conn);
-        let Some(reserved) = Reserved::new() else {
-            return Err(if broken {
-                AddError::Broken(conn)
-            } else {
-                AddError::Withheld(conn)
-            });
-        };
-        let mut conn = reserved.fill(conn);
-        let at = shared.now();
-        shared.set_end(&mut conn, at);
-        let mut locked = shared.lock();
-        let (refused, conn): (fn(_) -> _, _) = match locked.core.add(Moment(at), Some(conn), broken)
-        {
-            Ok(AddAnswer::Added(_, notified)) => {
-                locked.counts.added += 1;
-                shared.settle(locked, at, core::kept(notified));
-                return Ok(());
-            }
-            Ok(AddAnswer::Broken(conn)) => (AddError::Broken, conn),
-            Ok(AddAnswer::NoCapacity(conn)) => (AddError::NoCapacity, conn),
-            Ok(AddAnswer::Withheld(conn)) => (AddError::Withheld, conn),
-            // The pool is closed.
-            Err(conn) if broken => (AddError::Broken, conn),
-            Err(conn) => (AddError::NoCapacity, conn),
-        };
-        drop(locked);
-        match conn {
-            Some(conn) => Err(refused(Boxed::into_inner(conn))),
-            None => unreachable!("the core returns what it was handed"),
-        }
-    }
-
-    pub(crate) fn state(&self) -> State {
-        self.shared().state()
-    }
-
-    /// Where memory to list what is closed is refused, the next reap closes it.
-    pub(crate) fn reap(&self) {
-        // The panic hook has reported panics there. They do not end the reaper.
-        let _panicked = self.sweep(Core::reap_into, IDLE_TIMEOUT);
-    }
-
-    /// Where memory to list what is closed is refused, nothing changes.
-    pub(crate) fn retire(&self) {
-        resume(self.sweep(Core::retire_into, RETIRED));
-    }
-
-    /// Reaps or retires, drops what is closed, and opens what is to be opened. Returns the first
-    /// panic of a destructor.
-    fn sweep(&self, sweep: Sweep<M::Connection>, reason: &str) -> Result<(), Box<dyn Any + Send>> {
-        let shared = self.shared();
-        let at = shared.now();
-        let due = shared.lock().sweep(at, sweep);
-        let dropped = shared.drop_closed(reason);
-        if due || shared.lock().unopened {
-            shared.open();
-        }
-        dropped
-    }
-}
-
 /// Reaps at each tick, until the pool is closed.
 async fn reap<M: ManageConnection>(mut ticks: Interval, owner: Weak<Owner<M>>) {
     loop {
         ticks.tick().await;
-        let Some(owner) = owner.upgrade() else {
-            return;
-        };
-        let pool = PoolInner { owner };
-        if pool.shared().is_closed() {
-            return;
+        match owner.upgrade() {
+            Some(owner) if !owner.shared.is_closed() => owner.shared.reap(),
+            _ => return,
         }
-        pool.reap();
-    }
-}
-
-#[cfg(test)]
-impl<M: ManageConnection> PoolInner<M> {
-    /// What the lock holds, for a test.
-    pub(crate) fn locked(&self) -> MutexGuard<'_, Locked<M::Connection>> {
-        self.shared().lock()
     }
 }

@@ -1,41 +1,30 @@
-//! How connections are returned, and what follows a step: which get is woken or handed a
-//! connection, what is opened, what is dropped. User code (the manager, the destructors of
-//! connections, wakers) runs outside of the lock, and may panic.
+//! The return of connections, and what follows a step: a get is woken or handed a connection,
+//! connections are opened or dropped. User code runs outside of the lock, and may panic.
 
 use crate::boxed::Boxed;
 use crate::core::{after, After, Checkout, Core, GetKey, Held, Key, Moment};
-use crate::events::{FAILED_CHECK, MAX_LIFETIME, NOT_KEPT};
+use crate::events::{MAX_LIFETIME, NOT_KEPT};
 use crate::lock::MutexGuard;
 use crate::managers::ManageConnection;
-use crate::pool::{Locked, Shared};
+use crate::pool::{resume, Locked, Shared};
 use std::any::Any;
 use std::mem::ManuallyDrop;
 use std::panic::{catch_unwind, AssertUnwindSafe};
 use std::sync::Arc;
 use std::task::Waker;
 
-/// Runs a closure at the end of a scope, even if a panic unwinds through it.
-struct Finally<F: FnOnce()>(Option<F>);
-
-impl<F: FnOnce()> Drop for Finally<F> {
-    #[inline]
-    fn drop(&mut self) {
-        if let Some(last) = self.0.take() {
-            last();
-        }
-    }
-}
-
 /// A step that returns the connection with this key, unless it was dropped, broken or not.
 pub(crate) trait HandsIn<C>:
-    FnOnce(&mut Core<C>, Moment, Key, Held<C>, bool) -> Option<After<C>>
+    FnOnce(&mut Core<C>, Moment, Key, Held<C>, bool) -> Left<C>
 {
 }
 
-impl<C, F: FnOnce(&mut Core<C>, Moment, Key, Held<C>, bool) -> Option<After<C>>> HandsIn<C> for F {}
+impl<C, F: FnOnce(&mut Core<C>, Moment, Key, Held<C>, bool) -> Left<C>> HandsIn<C> for F {}
 
-/// The step that reports the return of a checked-out connection to the core. If this is dropped,
-/// the step is made without the connection, which is gone: otherwise its slot would leak.
+type Left<C> = Option<After<C>>;
+
+/// The step that reports the return of a connection to the core. If this is dropped, the step is
+/// made without the connection, which is gone: otherwise its slot would leak.
 struct Owed<'a, M: ManageConnection, S: HandsIn<M::Connection>> {
     shared: &'a Arc<Shared<M>>,
     key: Key,
@@ -69,16 +58,13 @@ impl<M: ManageConnection, S: HandsIn<M::Connection>> Drop for Owed<'_, M, S> {
 /// What becomes of a connection that is returned.
 #[derive(Clone, Copy, PartialEq, Eq)]
 pub(crate) enum Fate {
-    /// A guard returns it: it is kept unless it is broken, the customizer does not keep it, or it
-    /// is past its own end.
+    /// It is kept unless it is broken, the customizer does not keep it, or it is past its own end.
     Released,
-    /// No guard had it: it is kept unless it is broken.
+    /// It is kept unless it is broken.
     Kept,
-    /// It is closed, as its check failed.
-    Invalid,
-    /// It is closed, as it is past its own end.
-    TooOld,
-    /// It is closed as broken. Its check was cut off, so nobody knows what the server sends next.
+    /// It is closed for this reason, whether it is broken or not.
+    Closed(&'static str),
+    /// It is closed as broken: its check was cut off, so nobody knows what the server sends next.
     CutOff,
 }
 
@@ -93,31 +79,28 @@ impl<M: ManageConnection> Shared<M> {
         }
     }
 
-    /// Returns a connection that no guard had, or that nothing but the manager looks at.
+    /// Returns a connection that needs no inspection.
     #[inline]
     pub(crate) fn put_back(self: &Arc<Self>, checkout: Checkout<M::Connection>) {
-        self.take_back(
-            checkout,
-            Fate::Kept,
-            Shared::back_now,
-            |core, at, key, conn, broken| after(core.put_back(at, key, conn, broken)),
-        );
+        self.put_back_as(checkout, Fate::Kept);
     }
 
-    /// Returns a connection that a guard had, after a look at it.
+    /// Inspects and returns a connection that a guard had.
     #[inline(never)]
     fn inspect(self: &Arc<Self>, checkout: Checkout<M::Connection>) {
-        self.take_back(
-            checkout,
-            Fate::Released,
-            Shared::back_now,
-            |core, at, key, conn, broken| after(core.put_back(at, key, conn, broken)),
-        );
+        self.put_back_as(checkout, Fate::Released);
     }
 
-    /// Returns a checked-out connection by a step, at the moment that the clock returns. If it is
-    /// not kept, or if the manager or the customizer panics, it is dropped before the core frees
-    /// its slot, and counts as broken.
+    #[inline(always)]
+    fn put_back_as(self: &Arc<Self>, checkout: Checkout<M::Connection>, fate: Fate) {
+        let step =
+            |core: &mut Core<_>, at, key, conn, broken| after(core.put_back(at, key, conn, broken));
+        self.take_back(checkout, fate, |it| it.now_if(it.dates_returns), step);
+    }
+
+    /// Returns a checked-out connection by a step, at the moment of the clock. If it is not kept,
+    /// or if the manager or the customizer panics, it is dropped before the core frees its slot,
+    /// and counts as broken.
     #[inline]
     pub(crate) fn take_back(
         self: &Arc<Self>,
@@ -138,8 +121,7 @@ impl<M: ManageConnection> Shared<M> {
         let is_broken = fate == Fate::CutOff || self.manager.has_broken(&mut conn);
         owed.broken = is_broken;
         let reason = match fate {
-            Fate::Invalid => Some(FAILED_CHECK),
-            Fate::TooOld => Some(MAX_LIFETIME),
+            Fate::Closed(reason) => Some(reason),
             Fate::Released if !is_broken => {
                 // It counts as broken if this panics, too.
                 owed.broken = true;
@@ -167,7 +149,7 @@ impl<M: ManageConnection> Shared<M> {
 
     /// Takes a connection that a guard had out of the pool.
     pub(crate) fn detach(self: &Arc<Self>, checkout: Checkout<M::Connection>) -> M::Connection {
-        let at = self.back_now();
+        let at = self.now_if(self.dates_returns);
         let mut locked = self.lock();
         let detached = locked.core.detach(Moment(at), checkout.key);
         self.settle(locked, at, after(detached));
@@ -190,7 +172,6 @@ impl<M: ManageConnection> Shared<M> {
         }
     }
 
-    /// Does what a step has left to be done.
     fn follow(
         self: &Arc<Self>,
         mut locked: MutexGuard<'_, Locked<M::Connection>>,
@@ -209,28 +190,27 @@ impl<M: ManageConnection> Shared<M> {
             }
         }
         drop(locked);
-        if let Some(conn) = &closed {
-            self.ended(conn);
-        }
-        let drops = closed.is_some();
-        let _last = Finally(Some(|| {
-            if drops {
-                due |= self.is_dropped();
-            }
+        let go_on = |due| {
             if due {
                 self.open();
             }
             if let Some(waker) = waker {
                 waker.wake();
             }
-        }));
-        drop(closed);
+        };
+        let Some(conn) = closed else {
+            return go_on(due);
+        };
+        self.ended(&conn);
+        let dropped = catch_unwind(AssertUnwindSafe(|| drop(conn)));
+        go_on(self.is_dropped() || due);
+        resume(dropped);
     }
 
     /// Returns the waker of a notified get, and whether connections are to be opened. In a fair
-    /// pool the get is handed an idle connection. If none is idle it has to try by itself, since
-    /// the connection that it then requests is opened in the runtime of its task. A get that is not
-    /// here had no memory to wait: it gives up, which passes its notification on.
+    /// pool the get is handed an idle connection. If none is idle it tries by itself, so that the
+    /// connection that it requests is opened in the runtime of its task. A get that is not here had
+    /// no memory to wait: it gives up, which passes its notification on.
     #[inline]
     fn notify(
         &self,
@@ -249,9 +229,8 @@ impl<M: ManageConnection> Shared<M> {
         }
     }
 
-    /// Drops the connections that a step closed all at once, one by one and outside of the lock: a
-    /// destructor may take long, and may call the pool. If some of them panic, the others run all
-    /// the same, and the first panic is returned.
+    /// Drops the connections that a step closed all at once, one by one. If some of the destructors
+    /// panic, the others run all the same, and the first panic is returned.
     pub(crate) fn drop_closed(&self, reason: &str) -> Result<(), Box<dyn Any + Send>> {
         let next = || self.lock().take_closed();
         let mut result = Ok(());
@@ -267,7 +246,10 @@ impl<M: ManageConnection> Shared<M> {
     /// Notes that a closed connection was dropped. Returns whether connections are left to be
     /// opened.
     fn is_dropped(&self) -> bool {
-        let due = self.lock().is_dropped();
+        let mut locked = self.lock();
+        locked.dropping -= 1;
+        let due = locked.unopened;
+        drop(locked);
         self.closing.notify_waiters();
         due
     }

@@ -1,8 +1,4 @@
-//! The gets that wait: the waker of each, or the connection that was handed to it.
-//!
-//! A waiting get stands at its index in the core's table of gets, which it has to itself meanwhile.
-//! One that was handed a connection stands under its number: the core may have given its index away
-//! by then.
+//! The waiting gets: the waker of each, or the connection that it was handed.
 
 use crate::core::{Checkout, GetKey};
 use std::collections::HashMap;
@@ -28,7 +24,7 @@ pub(crate) struct Waiters<C> {
     /// By their index in the core's table of gets.
     waiting: Vec<Option<Waiting>>,
     count: usize,
-    /// By their number.
+    /// By their number, as the core may give their index away.
     handed: HashMap<u64, Handed<C>>,
     hands_off: bool,
     /// Whether gets may still wait.
@@ -50,8 +46,8 @@ impl<C> Waiters<C> {
         }
     }
 
-    /// Makes a get wait that does not wait here yet, and takes its waker. Returns false if memory
-    /// is refused, or if no get may wait any more.
+    /// Makes a get wait, and takes its waker. Returns false if memory is refused, or if no get may
+    /// wait any more.
     #[inline]
     pub(crate) fn wait(&mut self, get: GetKey, since: u64, waker: &mut Option<Waker>) -> bool {
         if (self.hands_off || get.place >= self.waiting.len()) && !self.make_room(get.place) {
@@ -70,20 +66,14 @@ impl<C> Waiters<C> {
     /// Reserves memory for a get at this index, and for the hand-off to it.
     #[cold]
     fn make_room(&mut self, index: usize) -> bool {
-        if !self.is_open {
-            return false;
+        let missing = (index + 1).saturating_sub(self.waiting.len());
+        let has_room = self.is_open
+            && (!self.hands_off || self.handed.try_reserve(self.count + 1).is_ok())
+            && self.waiting.try_reserve(missing).is_ok();
+        if has_room {
+            self.waiting.extend((0..missing).map(|_| None));
         }
-        if self.hands_off && self.handed.try_reserve(self.count + 1).is_err() {
-            return false;
-        }
-        if index >= self.waiting.len() {
-            let missing = index + 1 - self.waiting.len();
-            if self.waiting.try_reserve(missing).is_err() {
-                return false;
-            }
-            self.waiting.resize_with(index + 1, || None);
-        }
-        true
+        has_room
     }
 
     /// The entry of a get, if it waits.
@@ -93,8 +83,8 @@ impl<C> Waiters<C> {
         waits.then_some(entry)
     }
 
-    /// Removes a get, if it waits. Its waker has to be dropped outside of the lock: it may own a
-    /// task, and the task a connection.
+    /// Removes a get, if it waits. Its waker, which is user code, is to be dropped outside of the
+    /// lock.
     #[inline]
     pub(crate) fn remove(&mut self, get: GetKey) -> Option<Waker> {
         let removed = self.entry(get)?.take();
@@ -130,8 +120,7 @@ impl<C> Waiters<C> {
         self.remove(get)
     }
 
-    /// Removes all waiting gets, and returns their wakers. From now on none may wait. Those that
-    /// were handed a connection keep it.
+    /// Removes all waiting gets, and returns their wakers. From now on none may wait.
     pub(crate) fn close(&mut self) -> impl Iterator<Item = Waker> {
         self.is_open = false;
         self.count = 0;

@@ -11,10 +11,13 @@ use std::sync::Arc;
 use std::task::Context;
 use std::thread;
 use std::time::Duration;
+use tokio::sync::Notify;
 use tokio::task::{yield_now, JoinHandle};
 use tokio::time::{sleep, timeout, Instant};
 
 const SECOND: Duration = Duration::from_secs(1);
+/// How long a connection takes to open.
+const CONNECT: Duration = Duration::from_millis(10);
 const KINDS: [(bool, Option<Duration>); 4] = [
     (false, None),
     (true, None),
@@ -30,6 +33,8 @@ struct World {
     dropped: AtomicU32,
     released: AtomicU32,
     connects_hang: AtomicBool,
+    connects_wait: AtomicBool,
+    may_connect: Notify,
     checks_fail: AtomicBool,
     drops_panic: AtomicBool,
     drops_block: AtomicBool,
@@ -71,7 +76,10 @@ impl ManageConnection for Manager {
         if self.0.connects_hang.load(SeqCst) {
             pending::<()>().await;
         }
-        sleep(Duration::from_millis(10)).await;
+        if self.0.connects_wait.load(SeqCst) {
+            self.0.may_connect.notified().await;
+        }
+        sleep(CONNECT).await;
         Ok(self.0.open())
     }
 
@@ -235,20 +243,99 @@ async fn retired_connections_are_served_no_more() {
     }
 }
 
+/// A pool whose connection attempts, so many, are held back, and its retiring in the middle. Those
+/// that begin later are not held back.
+async fn retired_while_connecting(pool: &Pool<Manager>, world: &World, attempts: u32) {
+    yield_now().await;
+    assert_eq!(world.begun.load(SeqCst), attempts);
+    pool.retire();
+    assert_eq!(pool.state().pending_connections, attempts);
+    world.connects_wait.store(false, SeqCst);
+    world.may_connect.notify_waiters();
+}
+
 #[tokio::test(start_paused = true)]
-async fn what_an_attempt_brings_that_was_retired_goes_out_once() {
+async fn an_attempt_in_progress_at_a_retiring_serves_nobody_and_another_one_begins_at_once() {
+    for kind in KINDS {
+        let (pool, world) = full(kind, 1).await;
+        drop(PooledConnection::detach(pool.get().await.unwrap()));
+        world.connects_wait.store(true, SeqCst);
+        let get = getting(&pool).await;
+        retired_while_connecting(&pool, &world, 1).await;
+        let began = Instant::now();
+        // Number 0 was detached, and 1 was retired before it was opened.
+        let conn = get.await.unwrap().unwrap();
+        assert_eq!((conn.0, world.dropped.load(SeqCst)), (2, 2), "{kind:?}");
+        assert_eq!(began.elapsed(), 2 * CONNECT);
+        drop(conn);
+        assert_eq!((world.alive(), pool.state().idle_connections), (1, 1));
+        let counts = pool.state().statistics;
+        assert_eq!(
+            (counts.connections_created, counts.connections_closed),
+            (1, 0)
+        );
+        let lost = (counts.connections_failed, counts.connections_closed_retired);
+        assert_eq!(lost, (0, 0));
+        assert!(balances(&pool));
+    }
+}
+
+#[tokio::test(start_paused = true)]
+async fn each_get_that_waits_at_a_retiring_is_served_with_a_new_connection() {
     for kind in KINDS {
         let world: Arc<World> = Arc::default();
-        let pool = builder(kind, 1).build(Manager(world.clone()));
+        let pool = builder(kind, 3).build(Manager(world.clone()));
         let pool = pool.await.unwrap();
-        let get = getting(&pool).await;
-        pool.retire();
-        let conn = get.await.unwrap().unwrap();
-        assert_eq!((conn.0, world.dropped.load(SeqCst)), (0, 0));
-        drop(conn);
-        assert_eq!(world.dropped.load(SeqCst), 1, "{kind:?}");
-        assert_eq!(pool.state().statistics.connections_closed_retired, 1);
+        world.connects_wait.store(true, SeqCst);
+        let gets = [
+            getting(&pool).await,
+            getting(&pool).await,
+            getting(&pool).await,
+        ];
+        retired_while_connecting(&pool, &world, 3).await;
+        let mut conns = Vec::new();
+        for get in gets {
+            let conn = timeout(SECOND, get).await.unwrap().unwrap().unwrap();
+            assert!(conn.0 >= 3, "{kind:?}");
+            conns.push(conn);
+        }
+        assert_eq!((world.opened.load(SeqCst), world.alive()), (6, 3));
+        drop(conns);
+        assert!(balances(&pool));
     }
+}
+
+#[tokio::test(start_paused = true)]
+async fn attempts_in_progress_at_a_retiring_begin_anew_for_min_idle() {
+    let world: Arc<World> = Arc::default();
+    world.connects_wait.store(true, SeqCst);
+    let pool = builder(KINDS[0], 3).min_idle(2);
+    let pool = pool.build_unchecked(Manager(world.clone()));
+    retired_while_connecting(&pool, &world, 2).await;
+    sleep(SECOND).await;
+    assert_eq!(
+        (world.opened.load(SeqCst), world.dropped.load(SeqCst)),
+        (4, 2)
+    );
+    assert_eq!((pool.state().idle_connections, world.alive()), (2, 2));
+    assert_eq!(pool.state().statistics.connections_created, 2);
+    assert!(balances(&pool));
+}
+
+#[tokio::test(start_paused = true)]
+async fn a_drop_that_panics_after_a_retiring_costs_a_waiting_get_nothing() {
+    let world: Arc<World> = Arc::default();
+    let pool = builder(KINDS[0], 1).build(Manager(world.clone()));
+    let pool = pool.await.unwrap();
+    world.connects_wait.store(true, SeqCst);
+    let get = getting(&pool).await;
+    world.drops_panic.store(true, SeqCst);
+    retired_while_connecting(&pool, &world, 1).await;
+    let conn = timeout(SECOND, get).await.unwrap().unwrap().unwrap();
+    world.drops_panic.store(false, SeqCst);
+    assert_eq!((conn.0, world.dropped.load(SeqCst)), (1, 1));
+    drop(conn);
+    assert!(balances(&pool));
 }
 
 #[tokio::test(start_paused = true)]

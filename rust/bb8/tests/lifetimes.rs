@@ -135,8 +135,8 @@ async fn an_idle_connection_past_its_end_is_closed_when_it_is_taken_out() {
             .min_idle(8)
             .reaper_rate(1000 * SECOND);
         let pool = builder.build(Manager(world.clone())).await.unwrap();
-        // Each end is past with a probability of 0.99.
-        sleep(99 * SECOND).await;
+        // An end is not past with a probability of 1 in 100,000.
+        sleep(100 * SECOND - Duration::from_millis(1)).await;
         assert_eq!(pool.state().idle_connections, 8);
         let conn = pool.get().await.unwrap();
         let seen = pool.state().statistics;

@@ -10,13 +10,13 @@ use futures::task::{Context, Poll};
 use std::marker::PhantomData;
 use std::sync::Wait;
 
-/// What `Pool::get` answers: a get that does nothing until it is polled.
+/// The future that `Pool::get` returns. It does nothing until it is polled.
 ///
-/// Each poll reads the pool's clock. It takes the pool's lock once where no check is made, and lets
-/// go of it before each call of the manager, the error sink or the clock. One that is pending asks
-/// to be polled again at once. When it is dropped before its answer, it gives the get up as
-/// cancelled; one that was not polled or was answered is dropped without a reading of the clock and
-/// without the lock. Upstream's get is an async function.
+/// Each poll reads the pool's clock. It acquires the pool's lock once if no check is made, and
+/// releases it before each callback to the manager, the error sink or the clock. A pending one asks
+/// to be polled again at once. If it is dropped before it resolves, the get is cancelled; if it was
+/// never polled, or has resolved, the drop reads no clock and acquires no lock. bb8's get is an
+/// async function.
 pub struct GetFuture<'a, G: Given, L: Parts> {
     pub(crate) shared: &'a Shared<G, L>,
     pub(crate) get: GetState<G::Connection, G::Checking, Part<L>>,
@@ -53,8 +53,8 @@ impl<'a, G: Given<Runtime: Wait>, L: Parts> Future for GetFuture<'a, G, L> {
 
     ghost gives = { λ future out. GivesAtLast future out };
 
-    /// One poll at the clock's reading. It is pending while the get waits before its deadline, and
-    /// after its answer.
+    /// Polls once, at the clock's reading. It is pending while the get waits before its deadline,
+    /// and after it resolved.
     fn poll(&mut self, cx: &mut Context<'_>) -> Poll<Self::Output>
         ensures table { PollsGet self.old result self.new }
         ensures pool { self.new.shared.now ≡ self.old.shared.now }

@@ -1,4 +1,4 @@
-//! What several steps decide or do in common.
+//! Decisions and changes that several steps share.
 ghost use Rattle.std.specs.Prelude.{◌≡◌, ℕ, ◌+◌, ◌-◌, ◌<◌, ◌≤◌, ◌||◌, cond, ltb, slice_get, true, false, None, Some};
 ghost use Rattle.std.specs.FinMap as map;
 ghost use Rattle.std.specs.Option.{ForSome, option_map};
@@ -25,7 +25,7 @@ use bb8_types::grants::Grant;
 use bb8_types::standing::Holder;
 use std::time::Duration;
 
-/// How many approvals a grant is to make.
+/// Returns how many approvals a grant should make.
 #[inline]
 fn due(config: &Config, handles: u64, taken: u64, asked: u64) -> u64
     ensures { result ≡ grants.due (settings_of config.now) handles taken asked }
@@ -37,7 +37,7 @@ fn due(config: &Config, handles: u64, taken: u64, asked: u64) -> u64
     }
 }
 
-/// How many approvals are due of those that are wanted, while a handle is alive.
+/// Returns how many of the wanted approvals are due, while a handle is alive.
 pub(super) fn want_with_handle<C: Drop>(config: &Config, records: &Records<C>) -> u64
     ensures { (handles : ℕ) → 0 < handles
         → result ≡ decided.want (settings_of config.now) handles records.now }
@@ -53,7 +53,7 @@ pub(super) fn want_with_handle<C: Drop>(config: &Config, records: &Records<C>) -
     (least as u64).saturating_sub(records.ready()).min(room)
 }
 
-/// How many approvals are due of those that are wanted.
+/// Returns how many of the wanted approvals are due.
 pub(super) fn want<C: Drop>(config: &Config, handles: u64, records: &Records<C>) -> u64
     ensures { result ≡ decided.want (settings_of config.now) handles records.now }
 {
@@ -64,8 +64,8 @@ pub(super) fn want<C: Drop>(config: &Config, handles: u64, records: &Records<C>)
     }
 }
 
-/// How many approvals are due to a get that waits: one is asked for where gets outnumber open
-/// approvals.
+/// Returns how many approvals are due to a get that waits: one is requested if there are more gets
+/// than open approvals.
 pub(super) fn due_waiting<C: Drop>(
     config: &Config,
     handles: u64,
@@ -79,8 +79,8 @@ pub(super) fn due_waiting<C: Drop>(
     due(config, handles, records.used(), asked)
 }
 
-/// How many approvals are due to so many waiters that were not notified: as many are asked for as
-/// have no open approval.
+/// Returns how many approvals are due to `waiting` unnotified waiters: those without an open
+/// approval request one each.
 pub(super) fn due_asked<C: Drop>(
     config: &Config,
     handles: u64,
@@ -94,7 +94,7 @@ pub(super) fn due_asked<C: Drop>(
     due(config, handles, records.used(), asked)
 }
 
-/// The greatest age, in nanoseconds, at which this limit is not reached.
+/// Returns the greatest age, in nanoseconds, that does not reach a limit.
 pub(super) fn greatest_age(limit: Option<Duration>) -> u64
     requires { ForSome limit (λ l. 0 < as_nanos l) }
     ensures { IsGreatestAge (option_map as_nanos limit) result }
@@ -105,7 +105,7 @@ pub(super) fn greatest_age(limit: Option<Duration>) -> u64
     }
 }
 
-/// What a reap holds to that ends all idle connections: each has lived too long.
+/// Returns the configuration for a reap that ends all idle connections: each lives too long.
 pub(super) fn retiring(config: &Config) -> Config
     ensures { settings_of result ≡ record (settings_of config.now) { max_lifetime = Some 0 } }
 {
@@ -114,7 +114,7 @@ pub(super) fn retiring(config: &Config) -> Config
     all
 }
 
-/// Whether one of both holds.
+/// Returns whether at least one holds.
 #[inline]
 pub(super) fn either(a: bool, b: bool) -> bool
     ensures { result ≡ (a || b) }
@@ -122,7 +122,7 @@ pub(super) fn either(a: bool, b: bool) -> bool
     a || b
 }
 
-/// Whether a connection of this birth has lived too long.
+/// Returns whether a connection with this birth lives too long.
 pub(super) fn is_expired(config: &Config, now: u64, birth: u64) -> bool
     ensures { result ≡ places.is_expired (settings_of config.now).max_lifetime now birth }
 {
@@ -132,7 +132,7 @@ pub(super) fn is_expired(config: &Config, now: u64, birth: u64) -> bool
     }
 }
 
-/// Notifies the oldest waiter that was not notified, where the test passes.
+/// Notifies the longest waiter that was not notified, if the test passes.
 #[inline]
 pub(super) fn notify_next_if(gets: &mut Gets, test: bool, lendings: &mut Lendings) -> Option<GetKey>
     ensures value { notified_of result ≡ cond test (slice_get gets.old.waiting 0) None }
@@ -142,8 +142,8 @@ pub(super) fn notify_next_if(gets: &mut Gets, test: bool, lendings: &mut Lending
     if test { gets.notify(lendings) } else { None }
 }
 
-/// Whether the connection that is first of the idle ones is checked before a get is served with it.
-/// One entry is lent where its time in idleness decides.
+/// Returns whether the first idle connection must be checked before a get is served with it. Reads
+/// one entry if its idle time decides.
 #[inline(always)]
 pub(super) fn checks_first<C: Drop>(
     config: &Config,
@@ -169,7 +169,7 @@ pub(super) fn checks_first<C: Drop>(
     }
 }
 
-/// Whether a connection whose check was cut off counts as broken.
+/// Returns whether a connection whose check was cut off counts as broken.
 #[inline]
 pub(super) fn is_doubtful(config: &Config, broken: bool) -> bool
     ensures { result ≡ places.is_doubtful (settings_of config.now) broken }
@@ -177,8 +177,8 @@ pub(super) fn is_doubtful(config: &Config, broken: bool) -> bool
     broken || !config.test_after.is_zero()
 }
 
-/// Who holds a connection that a try takes out: the get, where it is checked before the get is
-/// served with it.
+/// Returns the holder of a connection that a try takes: the get if it must be checked first,
+/// otherwise a guard.
 pub(super) fn holder(checked: bool, get: GetKey) -> Holder
     ensures { result ≡ cond checked (Get get.number) Guard }
 {
@@ -189,7 +189,7 @@ pub(super) fn holder(checked: bool, get: GetKey) -> Holder
     }
 }
 
-/// Ends a connection that was out, and grants what is wanted then.
+/// Ends a checked-out connection, and grants what is wanted then.
 #[inline(always)]
 pub(super) fn close_and_grant<C: Drop>(
     config: &Config,

@@ -1,4 +1,4 @@
-//! What a pool tells of itself, and its handles.
+//! The statistics of a pool, and its handles.
 ghost use Rattle.std.specs.Prelude.{◌≡◌, ◌≤◌, IfOk};
 ghost use Rattle.bb8_ledger.specs.Acts as acts;
 ghost use Rattle.bb8_ledger.specs.Answers as answers;
@@ -11,10 +11,11 @@ ghost use Rattle.bb8_core.specs.StepAnswers.{answer_of_join, answer_of_leave, an
 ghost use Rattle.bb8_core.specs.Unfit.{Stepped};
 
 use super::{ClosedList, JoinAnswer, LeaveAnswer, Looked, PoolInternals, Unfit};
+use bb8_tables::Lendings;
 use bb8_types::api::{Moment, State};
 
 impl<C: Drop, A> PoolInternals<C, A> {
-    /// What the pool tells of itself.
+    /// Returns the size and the statistics of the pool.
     pub fn state(&mut self, at: Moment) -> State
         ensures step { Meets self.old at.0 acts.State (answers.Shown (figures_of result)) self.new }
         ensures figures { (l : ledger.Ledger C) → Represents l self.old
@@ -28,7 +29,7 @@ impl<C: Drop, A> PoolInternals<C, A> {
     {
         self.limits();
         self.latest = self.latest.max(at.0);
-        self.lendings.start();
+        self.lendings.end(Lendings::none());
         State {
             connections: self.records.connections(),
             idle_connections: self.records.idle_connections(),
@@ -36,20 +37,21 @@ impl<C: Drop, A> PoolInternals<C, A> {
         }
     }
 
-    /// Adds a handle, where fewer than 4,294,967,295 are alive. Where none is nothing changes.
+    /// Adds a handle, if fewer than 4,294,967,295 are alive. If none is, nothing changes.
     pub fn join(&mut self, at: Moment) -> Result<JoinAnswer, Unfit>
         ensures step { Stepped Meets answer_of_join self.old at.0 acts.Join result self.new }
         ensures counts { IsCounted self.old 0 0 self.new }
-        ensures examined { IfOk result (λ told. Lends 4 self.old self.new) }
-        ensures searched { IfOk result (λ told. Searches 0 self.new) }
+        ensures examined { Lends 4 self.old self.new }
+        ensures searched { Searches 0 self.new }
         ensures limits { IsWithinLimits self.old }
     {
         self.limits();
         if !self.fits_join() {
+            self.lendings.end_unfit(Lendings::none());
             return Err(Unfit);
         }
         self.latest = self.latest.max(at.0);
-        self.lendings.start();
+        self.lendings.end(Lendings::none());
         if self.handles >= u32::MAX as u64 {
             return Ok(JoinAnswer::Exhausted);
         }
@@ -57,25 +59,26 @@ impl<C: Drop, A> PoolInternals<C, A> {
         Ok(JoinAnswer::Joined)
     }
 
-    /// Takes a handle away. With the last one all idle connections and all unclaimed approvals end;
-    /// the connections are dropped here. Where no handle is alive nothing changes.
+    /// Drops a handle. With the last one all idle connections and all unclaimed approvals end; the
+    /// connections are dropped here. If no handle is alive, nothing changes.
     pub fn leave(&mut self, at: Moment) -> Result<LeaveAnswer, Unfit>
         ensures step { Stepped Meets answer_of_leave self.old at.0 acts.Leave result self.new }
         ensures counts { IsCounted self.old 0 0 self.new }
-        ensures examined { IfOk result (λ told. Lends 0 self.old self.new) }
-        ensures searched { IfOk result (λ told. Searches 0 self.new) }
+        ensures examined { Lends 0 self.old self.new }
+        ensures searched { Searches 0 self.new }
         ensures limits { IsWithinLimits self.old }
     {
         self.limits();
         if !self.fits_leave() {
+            self.lendings.end_unfit(Lendings::none());
             return Err(Unfit);
         }
         let mut dropped = self.records.no_list();
         Ok(self.leave_into(at, &mut dropped))
     }
 
-    /// Leaves as `leave` does, and puts the connections that it closes into a list, in line. What
-    /// the list has no room for is dropped.
+    /// As `leave`, but moves the connections that it closes into a list, the longest idle first.
+    /// Those for which the list has no room are dropped.
     pub fn leave_into(&mut self, at: Moment, closed: &mut ClosedList<C>) -> LeaveAnswer
         requires { IsFitting self.old acts.Leave }
         ensures step { Meets self.old at.0 acts.Leave (answer_of_leave result) self.new }
@@ -85,7 +88,7 @@ impl<C: Drop, A> PoolInternals<C, A> {
         ensures searched { Searches 0 self.new }
     {
         self.latest = self.latest.max(at.0);
-        self.lendings.start();
+        self.lendings.end(Lendings::none());
         if self.handles == 1 {
             self.handles = 0;
             self.closed_below = u64::MAX;
@@ -95,26 +98,27 @@ impl<C: Drop, A> PoolInternals<C, A> {
         LeaveAnswer::Left(0)
     }
 
-    /// Closes the pool: takes all handles away at once. All idle connections and all unclaimed
-    /// approvals end, as with the last handle that leaves; the connections are dropped here. Where
-    /// no handle is alive nothing changes.
+    /// Closes the pool: drops all handles at once. All idle connections and all unclaimed approvals
+    /// end, as with the last handle; the connections are dropped here. If no handle is alive,
+    /// nothing changes.
     pub fn close(&mut self, at: Moment) -> Result<LeaveAnswer, Unfit>
         ensures step { Stepped Meets answer_of_leave self.old at.0 acts.Close result self.new }
         ensures counts { IsCounted self.old 0 0 self.new }
-        ensures examined { IfOk result (λ told. Lends 0 self.old self.new) }
-        ensures searched { IfOk result (λ told. Searches 0 self.new) }
+        ensures examined { Lends 0 self.old self.new }
+        ensures searched { Searches 0 self.new }
         ensures limits { IsWithinLimits self.old }
     {
         self.limits();
         if !self.fits_close() {
+            self.lendings.end_unfit(Lendings::none());
             return Err(Unfit);
         }
         let mut dropped = self.records.no_list();
         Ok(self.close_into(at, &mut dropped))
     }
 
-    /// Closes as `close` does, and puts the connections that it closes into a list, in line. What
-    /// the list has no room for is dropped.
+    /// As `close`, but moves the connections that it closes into a list, the longest idle first.
+    /// Those for which the list has no room are dropped.
     pub fn close_into(&mut self, at: Moment, closed: &mut ClosedList<C>) -> LeaveAnswer
         requires { IsFitting self.old acts.Close }
         ensures step { Meets self.old at.0 acts.Close (answer_of_leave result) self.new }
@@ -124,13 +128,13 @@ impl<C: Drop, A> PoolInternals<C, A> {
         ensures searched { Searches 0 self.new }
     {
         self.latest = self.latest.max(at.0);
-        self.lendings.start();
+        self.lendings.end(Lendings::none());
         self.handles = 0;
         self.closed_below = u64::MAX;
         LeaveAnswer::Left(self.records.leave(closed))
     }
 
-    /// The effective moment, and whether a handle is alive.
+    /// Returns the effective moment, and whether a handle is alive.
     pub fn look(&mut self, at: Moment) -> Looked
         ensures step { Meets self.old at.0 acts.Look (answer_of_look result) self.new }
         ensures counts { IsCounted self.old 0 0 self.new }
@@ -140,7 +144,7 @@ impl<C: Drop, A> PoolInternals<C, A> {
     {
         self.limits();
         self.latest = self.latest.max(at.0);
-        self.lendings.start();
+        self.lendings.end(Lendings::none());
         Looked {
             moment: Moment(self.latest),
             alive: self.handles > 0,

@@ -1,5 +1,5 @@
-//! The questions that a state answers: whether an event fits, and where a number stands. Those that
-//! look at an entry count in a count of their own, which is forgotten.
+//! Queries on the state: whether an event fits, and the keys of numbers. Those that read an entry
+//! count in a counter of their own, which is discarded.
 ghost use Rattle.std.specs.Prelude.{◌≡◌, ◌+◌, ◌≤◌, min, Bool, cond, eqb, [], length, is_some, IfSome, IfNone, true};
 ghost use Rattle.bb8_ledger.specs.Acts as acts;
 ghost use Rattle.bb8_ledger.specs.Ledger as ledger;
@@ -10,11 +10,12 @@ ghost use Rattle.bb8_core.specs.Endings.{endings_of};
 ghost use Rattle.bb8_core.specs.StateView.{Represents, examined, searched, IsWithinLimits, TellsFitting, TellsRecord, TellsGet, IsRecordIn, IsNoRecordIn, IsGetIn, IsNoGetIn};
 
 use super::{GetKey, Key, PoolInternals};
+use bb8_tables::Lendings;
 use bb8_tables::gets::{held, is_trying};
 use bb8_types::standing::Getting;
 
 impl<C: Drop, A> PoolInternals<C, A> {
-    /// What holds of every state, whoever has it: its configuration is lawful, connections and open
+    /// States what holds of every state: its configuration is lawful, connections and open
     /// approvals are within the size, and the legal ledger that it represents keeps all limits. It
     /// does nothing.
     pub fn limits(&self)
@@ -26,32 +27,29 @@ impl<C: Drop, A> PoolInternals<C, A> {
         let _ = &self.config;
     }
 
-    /// How many entries of its tables the latest step lent: each time what stands at a place was
-    /// read or changed.
+    /// Returns how many table entries the latest step read or changed.
     pub fn examined(&self) -> u64
         ensures { result ≡ examined self.now }
     {
         self.lendings.lent()
     }
 
-    /// How often the latest step searched a table, as a key that it was handed told a place where
-    /// its number does not stand.
+    /// Returns how often the latest step searched a table, because a key had a stale hint.
     pub fn searched(&self) -> u64
         ensures { result ≡ searched self.now }
     {
         self.lendings.searched()
     }
 
-    /// The number that the next connection or approval will have.
+    /// Returns the number of the next connection or approval.
     pub(crate) fn next_number(&self) -> u64
         ensures { result ≡ self.now.records.next }
     {
         self.records.next_number()
     }
 
-    /// How many events may still come that end a get, a handle or the lending of a connection: one
-    /// of each get alive, of each handle alive, and of each connection that is out. It stays at the
-    /// greatest u64.
+    /// Returns how many events that end a get, a handle or a check-out may still come: one for each
+    /// get alive, each handle alive and each checked-out connection. It stops at the greatest u64.
     pub fn endings(&self) -> u64
         ensures { result ≡ min (endings_of self.now) end_of_numbers }
     {
@@ -61,35 +59,35 @@ impl<C: Drop, A> PoolInternals<C, A> {
             .saturating_add(out as u64)
     }
 
-    /// Whether a get may begin: while a handle is alive.
+    /// Returns whether a get may begin: while a handle is alive.
     pub fn fits_begin(&self) -> bool
         ensures { TellsFitting self.now acts.Begin result }
     {
         self.handles != 0
     }
 
-    /// Whether a connection may be added, whichever it is: while a handle is alive.
+    /// Returns whether any connection may be added: while a handle is alive.
     pub fn fits_add(&self) -> bool
         ensures { (conn : C) (broken : Bool) → TellsFitting self.now (acts.Add conn broken) result }
     {
         self.handles >= 1
     }
 
-    /// Whether a handle may be added: while one is alive.
+    /// Returns whether a handle may be added: while one is alive.
     pub fn fits_join(&self) -> bool
         ensures { TellsFitting self.now acts.Join result }
     {
         self.fits_begin()
     }
 
-    /// Whether the pool may be closed: while a handle is alive.
+    /// Returns whether the pool may be closed: while a handle is alive.
     pub fn fits_close(&self) -> bool
         ensures { TellsFitting self.now acts.Close result }
     {
         self.fits_join()
     }
 
-    /// Whether a handle may be dropped: while one is alive.
+    /// Returns whether a handle may be dropped: while one is alive.
     pub fn fits_leave(&self) -> bool
         ensures { TellsFitting self.now acts.Leave result }
     {
@@ -98,29 +96,32 @@ impl<C: Drop, A> PoolInternals<C, A> {
 }
 
 impl<C: Drop> PoolInternals<C> {
-    /// How the get stands, if it is alive.
+    /// Returns the state of a get, None if it is not alive.
     fn getting(&self, get: GetKey) -> Option<Getting>
         ensures { (l : ledger.Ledger C) → Represents l self.now
             → result ≡ ledger.get_of l get.number }
     {
-        self.gets.getting(get, &mut self.asking.count())
+        let mut lendings = Lendings::none();
+        let getting = self.gets.getting(get, &mut lendings);
+        self.asking.forget(lendings);
+        getting
     }
 
-    /// Whether the get may try.
+    /// Returns whether a get may try.
     pub fn fits_try(&self, get: GetKey) -> bool
         ensures { TellsFitting self.now (acts.Try get.number) result }
     {
         is_trying(self.getting(get))
     }
 
-    /// Whether the check of the get may be told as passed: where the get holds a connection.
+    /// Returns whether a passed check of a get may be reported: if it holds a connection.
     pub fn fits_checked_ok(&self, get: GetKey) -> bool
         ensures { TellsFitting self.now (acts.CheckedOk get.number) result }
     {
         self.held(get).is_some()
     }
 
-    /// The number of the connection that the get holds, if it holds one.
+    /// Returns the number of the connection that a get holds, None if it holds none.
     pub(crate) fn held(&self, get: GetKey) -> Option<u64>
         ensures { (l : ledger.Ledger C) → Represents l self.now
             → result ≡ places.holds (ledger.get_of l get.number) }
@@ -128,52 +129,64 @@ impl<C: Drop> PoolInternals<C> {
         held(self.getting(get))
     }
 
-    /// Whether the get is alive.
+    /// Returns whether a get is alive.
     pub(crate) fn is_alive(&self, get: GetKey) -> bool
         ensures { TellsGet (λ g. is_some g) self.now get.number result }
     {
         self.getting(get).is_some()
     }
 
-    /// Whether the number is a connection that a guard holds.
+    /// Returns whether a guard holds the connection.
     pub(crate) fn is_guarded(&self, k: Key) -> bool
         ensures { TellsRecord (places.stands places.is_guarded) self.now k.number result }
     {
-        self.records.is_guarded(k, &mut self.asking.count())
+        let mut lendings = Lendings::none();
+        let is_guarded = self.records.is_guarded(k, &mut lendings);
+        self.asking.forget(lendings);
+        is_guarded
     }
 
-    /// Whether the number is a claimed approval.
+    /// Returns whether the number is that of a claimed approval.
     pub(crate) fn is_claimed(&self, k: Key) -> bool
         ensures { TellsRecord (places.stands places.is_claimed) self.now k.number result }
     {
-        self.records.is_claimed(k, &mut self.asking.count())
+        let mut lendings = Lendings::none();
+        let is_claimed = self.records.is_claimed(k, &mut lendings);
+        self.asking.forget(lendings);
+        is_claimed
     }
 
-    /// The key of a connection or approval that has not ended, by its number.
+    /// Returns the key of a connection or approval, None if it has ended.
     pub fn find(&self, number: u64) -> Option<Key>
         ensures some { IfSome result (λ k. (k.number ≡ number) × IsRecordIn self.now number) }
         ensures none { IfNone result (IsNoRecordIn self.now number) }
     {
-        self.records.find(number, &mut self.asking.count())
+        let mut lendings = Lendings::none();
+        let found = self.records.find(number, &mut lendings);
+        self.asking.forget(lendings);
+        found
     }
 
-    /// The key of a get that has not ended, by its number.
+    /// Returns the key of a get, None if it has ended.
     pub fn find_get(&self, number: u64) -> Option<GetKey>
         ensures some { IfSome result (λ g. (g.number ≡ number) × IsGetIn self.now number) }
         ensures none { IfNone result (IsNoGetIn self.now number) }
     {
-        self.gets.find(number, &mut self.asking.count())
+        let mut lendings = Lendings::none();
+        let found = self.gets.find(number, &mut lendings);
+        self.asking.forget(lendings);
+        found
     }
 
-    /// How many connections are idle.
+    /// Returns the count of idle connections.
     pub fn idle(&self) -> u32
         ensures { result ≡ length self.now.records.idle }
     {
         self.records.idle_connections()
     }
 
-    /// How many connections the next leave closes: all that are idle, where one handle is alive and
-    /// no other.
+    /// Returns how many connections the next `leave` closes: all idle ones if one handle is alive,
+    /// else none.
     pub fn closed_by_leave(&self) -> u32
         ensures { result ≡ length (cond (eqb self.now.handles 1) self.now.records.idle []) }
     {

@@ -1,4 +1,4 @@
-//! Reaps, and the retiring of all that exists.
+//! The reap, and the retirement of everything that exists.
 ghost use Rattle.std.specs.Prelude.{◌≡◌, ◌+◌, ◌≤◌};
 ghost use Rattle.bb8_ledger.specs.Acts as acts;
 ghost use Rattle.bb8_core.specs.Closings.{OffersReaped, OffersRetired};
@@ -8,15 +8,15 @@ ghost use Rattle.bb8_core.specs.StepAnswers.{answer_of_reap, closed_in};
 
 use super::decided::{retiring, want};
 use super::{ClosedList, PoolInternals, ReapAnswer};
+use bb8_tables::Lendings;
 use bb8_types::api::Moment;
 
 impl<C: Drop, A> PoolInternals<C, A> {
-    /// Closes each idle connection that has lived for the `max_lifetime`, then those that have been
-    /// idle for the `idle_timeout`, the one that entered first before the others, but for
-    /// `min_idle` idle ones; and grants what is wanted then. Each counts in one figure: as one that
-    /// lived too long, or as one that idled. Nobody is notified. The connections are dropped here.
-    /// Where no handle is alive nothing changes but the latest moment. It looks at the connections
-    /// that end, at most at those that are out, and at two more.
+    /// Closes each idle connection that exceeds `max_lifetime`, then those that exceed
+    /// `idle_timeout`, the longest idle first, sparing `min_idle`; then grants what is wanted. Each
+    /// counts once: as too old, or else as idle too long. No get is notified. The connections are
+    /// dropped here. If no handle is alive, only the latest moment changes. It reads the entries of
+    /// the connections that end, at most those of checked-out ones, and two more.
     pub fn reap(&mut self, at: Moment) -> ReapAnswer
         ensures step { Meets self.old at.0 acts.Reap (answer_of_reap result) self.new }
         ensures counts { IsCounted self.old 0 0 self.new }
@@ -28,9 +28,10 @@ impl<C: Drop, A> PoolInternals<C, A> {
         self.reap_into(at, &mut dropped)
     }
 
-    /// Retires all connections and approvals that have numbers now: idle connections are closed,
-    /// and those that are out as they come back. Nobody is notified. The connections are dropped
-    /// here. Where no handle is alive none is idle.
+    /// Retires all connections and approvals that have numbers now. Idle connections are closed,
+    /// checked-out ones when they are returned, and those of attempts in progress when they are
+    /// opened. No get is notified. The connections are dropped here. While no handle is alive, none
+    /// is idle.
     pub fn retire(&mut self, at: Moment) -> ReapAnswer
         ensures step { Meets self.old at.0 acts.Retire (answer_of_reap result) self.new }
         ensures counts { IsCounted self.old 0 0 self.new }
@@ -42,8 +43,8 @@ impl<C: Drop, A> PoolInternals<C, A> {
         self.retire_into(at, &mut dropped)
     }
 
-    /// Reaps as `reap` does, and puts the connections that it closes into a list, in the order in
-    /// which it closes them. What the list has no room for is dropped.
+    /// As `reap`, but moves the connections that it closes into a list, in the order in which it
+    /// closes them. Those for which the list has no room are dropped.
     pub fn reap_into(&mut self, at: Moment, closed: &mut ClosedList<C>) -> ReapAnswer
         ensures closed { OffersReaped self.old at.0 result closed.old closed.new }
         ensures step { Meets self.old at.0 acts.Reap (answer_of_reap result) self.new }
@@ -55,13 +56,13 @@ impl<C: Drop, A> PoolInternals<C, A> {
         self.limits();
         let now = self.latest.max(at.0);
         self.latest = now;
-        self.lendings.start();
+        let mut lendings = Lendings::none();
         if self.handles == 0 {
+            self.lendings.end(lendings);
             return ReapAnswer::Ended;
         }
-        let reaped = self
-            .records
-            .reap(&self.config, now, closed, &mut self.lendings);
+        let reaped = self.records.reap(&self.config, now, closed, &mut lendings);
+        self.lendings.end(lendings);
         let wanted = want(&self.config, self.handles, &self.records);
         let grant = self.records.grant(wanted, false);
         self.counters.reap(reaped.by_idle, reaped.by_life);
@@ -73,8 +74,7 @@ impl<C: Drop, A> PoolInternals<C, A> {
         }
     }
 
-    /// Retires as `retire` does, and puts the connections that it closes into a list, as
-    /// `reap_into` does.
+    /// As `retire`, but moves the connections that it closes into a list, as `reap_into` does.
     pub fn retire_into(&mut self, at: Moment, closed: &mut ClosedList<C>) -> ReapAnswer
         ensures closed { OffersRetired self.old at.0 result closed.old closed.new }
         ensures step { Meets self.old at.0 acts.Retire (answer_of_reap result) self.new }
@@ -87,14 +87,16 @@ impl<C: Drop, A> PoolInternals<C, A> {
         let now = self.latest.max(at.0);
         self.latest = now;
         self.retired = self.records.next_number();
-        self.lendings.start();
+        let mut lendings = Lendings::none();
         if self.handles == 0 {
+            self.lendings.end(lendings);
             return ReapAnswer::Ended;
         }
         self.closed_below = self.retired;
         // A reap at which every idle connection has lived too long.
         let all = retiring(&self.config);
-        let reaped = self.records.reap(&all, now, closed, &mut self.lendings);
+        let reaped = self.records.reap(&all, now, closed, &mut lendings);
+        self.lendings.end(lendings);
         let wanted = want(&self.config, self.handles, &self.records);
         let grant = self.records.grant(wanted, false);
         let count = reaped.closed;

@@ -1,9 +1,9 @@
-//! Where records and gets stood when a replay last met them.
+//! The last known table indexes of records and gets in a replay.
 
 use std::alloc::Global;
 
-/// A place for each number from a first one on. A place is a hint, so one that is not known may be
-/// any: hints are given up where memory is refused for them.
+/// A table index for each number from a first one on. It is a hint, so any value will do if none is
+/// known: if memory for hints is refused, they are given up.
 #[derive(Drop)]
 pub(crate) struct Hints {
     first: u64,
@@ -11,7 +11,7 @@ pub(crate) struct Hints {
 }
 
 impl Hints {
-    /// No hints, which take no memory.
+    /// Returns an empty list. It allocates nothing.
     pub(crate) fn new(alloc: Global, first: u64) -> Self {
         Hints {
             first,
@@ -19,7 +19,7 @@ impl Hints {
         }
     }
 
-    /// Where the number stood, or 0.
+    /// Returns the last known index of a number, or 0.
     pub(crate) fn place(&self, number: u64) -> usize {
         let Some(past) = number.checked_sub(self.first) else {
             return 0;
@@ -27,7 +27,7 @@ impl Hints {
         self.places.get(past as usize).copied().unwrap_or(0)
     }
 
-    /// Notes where the number stands.
+    /// Stores the index of a number.
     pub(crate) fn note(&mut self, number: u64, place: usize) {
         let Some(past) = number.checked_sub(self.first) else {
             return;

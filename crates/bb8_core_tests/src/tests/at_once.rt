@@ -7,8 +7,8 @@ use bb8_core::internals::{
     AddAnswer, BeginAnswer, GiveUpAnswer, PoolInternals, PutBackAnswer, Reason,
 };
 
-/// The first get raises the peak and goes by the two steps; the second is served in one step, as
-/// get 1 with connection 0; with nothing idle none is.
+/// The first get raises the peak and needs two steps. The second is served in one step, as get 1
+/// with connection 0. Without an idle connection none is.
 #[test]
 fn succeeds_serving_at_once(rt: HostRuntime) {
     let config = unchecked(1, None);
@@ -17,7 +17,7 @@ fn succeeds_serving_at_once(rt: HostRuntime) {
     let Ok(AddAnswer::Added(_, None)) = pool.add(NOW, Colour::Red, false) else {
         panic!(rt; "nothing was added");
     };
-    // The first get raises the peak, for which memory is asked, so it goes by the two steps.
+    // The first get raises the peak, which needs memory, so it takes two steps.
     assert!(rt; pool.serve_at_once(NOW).is_none());
     let Ok(BeginAnswer::Begun(get)) = pool.begin(NOW) else {
         panic!(rt; "no get began");
@@ -32,7 +32,7 @@ fn succeeds_serving_at_once(rt: HostRuntime) {
     assert_equal(&rt, served.get, 1);
     assert_equal(&rt, served.key.number, 0);
     assert_equal(&rt, served.conn, Colour::Red);
-    // Nothing is idle now, and so nothing happens.
+    // No connection is idle now, so nothing happens.
     assert!(rt; pool.serve_at_once(NOW).is_none());
     let state = pool.state(NOW);
     assert_equal(&rt, state.connections, 1);
@@ -50,7 +50,7 @@ fn checked_gets_are_not_served_at_once(rt: HostRuntime) {
     let Ok(AddAnswer::Added(_, None)) = pool.add(NOW, Colour::Red, false) else {
         panic!(rt; "nothing was added");
     };
-    // There is room for a get.
+    // Raises the peak of gets, so that the next one needs no memory.
     let Ok(BeginAnswer::Begun(get)) = pool.begin(NOW) else {
         panic!(rt; "no get began");
     };

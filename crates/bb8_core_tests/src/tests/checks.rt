@@ -1,4 +1,4 @@
-//! Gets that check what they take: each end of a check, and give-ups that hand a connection in.
+//! Gets that check their connection: each end of a check, and give-ups that return a connection.
 ghost use Rattle.std.specs.Prelude.{◌+◌, ◌≤◌};
 
 use super::steps::{Colour, NOW, taken_by};
@@ -13,7 +13,7 @@ use std::alloc::Global;
 use std::process::Abort;
 use std::time::Duration;
 
-/// A pool that checks each connection before it hands it out.
+/// Returns settings with the check on.
 fn checked(max_size: u32, min_idle: Option<u32>) -> Config {
     Config {
         max_size,
@@ -22,7 +22,7 @@ fn checked(max_size: u32, min_idle: Option<u32>) -> Config {
     }
 }
 
-/// A pool with room for one connection, which is idle.
+/// Returns a pool with one slot, whose connection is idle.
 fn one_idle(rt: &impl Abort, alloc: Global) -> PoolInternals<Colour> {
     let config = checked(1, None);
     assert!(rt; config.is_lawful());
@@ -33,7 +33,7 @@ fn one_idle(rt: &impl Abort, alloc: Global) -> PoolInternals<Colour> {
     pool
 }
 
-/// What a pool tells of so many connections, which are all idle.
+/// Returns the state of a pool whose connections, this many, are all idle.
 fn shown(connections: u32, statistics: Statistics) -> State {
     State {
         connections,
@@ -42,7 +42,7 @@ fn shown(connections: u32, statistics: Statistics) -> State {
     }
 }
 
-/// So many gets began, were served at once, timed out and were let go.
+/// Returns statistics with these counts of gets: started, served at once, timed out and cancelled.
 fn counted(started: u64, direct: u64, timed_out: u64, cancelled: u64) -> Statistics
     requires { direct + timed_out + cancelled ≤ started }
 {
@@ -63,7 +63,7 @@ fn counted(started: u64, direct: u64, timed_out: u64, cancelled: u64) -> Statist
     }
 }
 
-/// A get that began.
+/// Begins a get.
 fn begun(rt: &impl Abort, pool: &mut PoolInternals<Colour>) -> GetKey {
     match pool.begin(NOW) {
         Ok(BeginAnswer::Begun(get)) => get,
@@ -71,7 +71,8 @@ fn begun(rt: &impl Abort, pool: &mut PoolInternals<Colour>) -> GetKey {
     }
 }
 
-/// Whether these fit of a get: a try, both ends of a check; and the return of the connection 0.
+/// Whether these events of a get fit: a try, and both ends of a check; and the return of connection
+/// 0.
 fn fitting(pool: &PoolInternals<Colour>, get: u64) -> (bool, bool, bool, bool) {
     let fits = |act| fits(pool, Event { at: NOW, act });
     (
@@ -88,7 +89,7 @@ fn succeeds_both_ends_of_a_check(rt: HostRuntime) {
     let get = begun(&rt, &mut pool);
     assert_equal(&rt, fitting(&pool, 0), (true, false, false, false));
     let (key, conn, grant) = taken_by(&rt, &mut pool, get);
-    // The get is looked at, the connection goes out, and the get holds it.
+    // The step reads the get's entry, checks the connection out, and the get holds it.
     assert_equal(&rt, (pool.examined(), pool.searched()), (3, 0));
     assert_equal(
         &rt,
@@ -99,7 +100,7 @@ fn succeeds_both_ends_of_a_check(rt: HostRuntime) {
     let Ok(CheckedOkAnswer::Served(key)) = pool.checked_ok(NOW, get, key.place) else {
         panic!(rt; "the get holds nothing");
     };
-    // The get is looked at, and a guard has the connection.
+    // The step reads the get's entry, and a guard has the connection.
     assert_equal(&rt, (pool.examined(), pool.searched()), (2, 0));
     assert_equal(&rt, key.number, 0);
     assert_equal(&rt, fitting(&pool, 0), (false, false, false, true));
@@ -114,7 +115,7 @@ fn succeeds_both_ends_of_a_check(rt: HostRuntime) {
     ) else {
         panic!(rt; "somebody was notified");
     };
-    // The get is looked at, and the connection's birth, and the get is active again.
+    // The step reads the get's entry and the connection's birth, and the get is active again.
     assert_equal(&rt, (pool.examined(), pool.searched()), (3, 0));
     assert_equal(
         &rt,
@@ -144,7 +145,7 @@ fn succeeds_give_ups_of_a_held_connection(rt: HostRuntime) {
     ) else {
         panic!(rt; "it was closed, or somebody was notified");
     };
-    // The get is looked at, and the connection's birth, and the connection is idle again.
+    // The step reads the get's entry and the connection's birth, and the connection is idle again.
     assert_equal(&rt, (pool.examined(), pool.searched()), (3, 0));
     assert_equal(&rt, kept.number, 0);
     let again = pool.give_back(NOW, get, Reason::TimedOut, Colour::Blue, false, key.place);
@@ -161,7 +162,7 @@ fn succeeds_give_ups_of_a_held_connection(rt: HostRuntime) {
     ) else {
         panic!(rt; "it was kept, or somebody was notified");
     };
-    // The hint is stale: the connection is searched for as its birth is read, and as it ends.
+    // The hint is stale: the connection is searched for when its birth is read, and when it ends.
     assert_equal(&rt, (pool.examined(), pool.searched()), (2, 2));
     assert_equal(
         &rt,

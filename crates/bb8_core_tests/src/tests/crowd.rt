@@ -1,5 +1,5 @@
-//! Twenty-five thousand gets that wait: who is notified, what is counted, and that no step lends
-//! more than four entries.
+//! 25,000 waiting gets: who is notified, what is counted, and that no step reads more than four
+//! entries.
 
 use super::{assert_equal, granted, unchecked};
 use bb8_core::api::{Moment, State};
@@ -13,12 +13,12 @@ use std::test::Fail;
 
 const NOW: Moment = Moment(0);
 
-/// How many gets wait.
+/// The number of waiters.
 const CROWD: u32 = 25_000;
 
-/// What a pool tells, in the order in which a state is printed: connections, idle, started, direct,
-/// waited, timed out, cancelled, the wait time in nanoseconds, created, closed as broken, as
-/// invalid, by lifetime, by idle timeout.
+/// Returns the numbers of a state in the order in which it is printed: connections, idle, started,
+/// direct, waited, timed out, cancelled, the wait time in nanoseconds, created, closed as broken,
+/// as invalid, by lifetime, by idle timeout.
 fn figures(state: &State) -> [u128; 13] {
     let statistics = &state.statistics;
     [
@@ -38,12 +38,12 @@ fn figures(state: &State) -> [u128; 13] {
     ]
 }
 
-/// Asserts that the step that was made lent at most four entries.
+/// Asserts that the latest step read at most four entries.
 fn assert_few(rt: &impl Abort, pool: &PoolInternals<u32>) {
     assert!(rt; pool.examined() <= 4);
 }
 
-/// A pool of so many connections, of which none is open yet.
+/// Returns a pool of this size without connections.
 fn crowded(rt: &impl Abort, alloc: Global, max_size: u32) -> PoolInternals<u32> {
     let config = unchecked(max_size, None);
     assert!(rt; config.is_lawful());
@@ -60,14 +60,14 @@ fn begin(rt: &impl Abort, pool: &mut PoolInternals<u32>) -> GetKey {
     }
 }
 
-/// Has a get try that may.
+/// Makes a get's try that fits.
 fn try_get(rt: &impl Abort, pool: &mut PoolInternals<u32>, get: GetKey) -> TryAnswer<u32> {
     let answer = pool.try_get(NOW, get);
     assert_few(rt, pool);
     answer.expect(rt, "the get may try")
 }
 
-/// Has a get begin and wait, and tells what was granted for it.
+/// Begins a get that waits. Returns it and its grant.
 fn wait(rt: &impl Abort, pool: &mut PoolInternals<u32>) -> (GetKey, Grant) {
     let get = begin(rt, pool);
     match try_get(rt, pool, get) {
@@ -76,7 +76,7 @@ fn wait(rt: &impl Abort, pool: &mut PoolInternals<u32>) -> (GetKey, Grant) {
     }
 }
 
-/// Has a get be served that was notified.
+/// Serves a notified get.
 fn served_by(rt: &impl Abort, pool: &mut PoolInternals<u32>, get: GetKey) -> (Key, u32) {
     match try_get(rt, pool, get) {
         TryAnswer::Served(key, conn, _) => (key, conn),
@@ -84,7 +84,7 @@ fn served_by(rt: &impl Abort, pool: &mut PoolInternals<u32>, get: GetKey) -> (Ke
     }
 }
 
-/// Gives back a connection that a guard holds, and tells who was notified.
+/// Returns a guard's connection to the pool. Returns the notified get.
 fn put_back(rt: &impl Abort, pool: &mut PoolInternals<u32>, key: Key, conn: u32) -> Option<GetKey> {
     let answer = pool.put_back(NOW, key, conn, false);
     assert_few(rt, pool);
@@ -94,7 +94,7 @@ fn put_back(rt: &impl Abort, pool: &mut PoolInternals<u32>, key: Key, conn: u32)
     }
 }
 
-/// Claims an approval and opens it, and tells who was notified.
+/// Claims an approval and opens its connection. Returns the notified get.
 fn open(rt: &impl Abort, pool: &mut PoolInternals<u32>, conn: u32) -> Option<GetKey> {
     let answer = pool.claim(NOW);
     assert_few(rt, pool);
@@ -109,7 +109,7 @@ fn open(rt: &impl Abort, pool: &mut PoolInternals<u32>, conn: u32) -> Option<Get
     }
 }
 
-/// Lets a get go that was not notified.
+/// Cancels a get that was not notified.
 fn cancel(rt: &impl Abort, pool: &mut PoolInternals<u32>, get: GetKey) {
     let answer = pool.give_up(NOW, get, Reason::Cancelled, false);
     assert_few(rt, pool);
@@ -118,7 +118,7 @@ fn cancel(rt: &impl Abort, pool: &mut PoolInternals<u32>, get: GetKey) {
     };
 }
 
-/// Serves a get and whoever its return notifies, one after another, and tells how many they were.
+/// Serves a get, and then each get that a return notifies. Returns how many they were.
 fn serve_from(rt: &impl Abort, pool: &mut PoolInternals<u32>, first: GetKey) -> u32 {
     let mut next = Some(first);
     for served in 0..CROWD {
@@ -131,8 +131,8 @@ fn serve_from(rt: &impl Abort, pool: &mut PoolInternals<u32>, first: GetKey) -> 
     CROWD
 }
 
-/// Asserts how many entries the step that was made lent, and that it searched for none, as each key
-/// told where its number stands.
+/// Asserts how many entries the latest step read, and that it searched for none, as each key has
+/// the index of its number.
 fn assert_lent(rt: &impl Abort, pool: &PoolInternals<u32>, wanted: u64) {
     assert_equal(&rt, (pool.examined(), pool.searched()), (wanted, 0));
 }
@@ -141,24 +141,24 @@ fn assert_lent(rt: &impl Abort, pool: &PoolInternals<u32>, wanted: u64) {
 fn steps_tell_what_they_lent(rt: HostRuntime) {
     let mut pool = crowded(&rt, rt.alloc(), 1);
     assert_lent(&rt, &pool, 0);
-    // A get is made, and then looked at, and waits.
+    // A get begins; then its entry is read, and it waits.
     let get = begin(&rt, &mut pool);
     assert_lent(&rt, &pool, 0);
     let TryAnswer::Waiting(_) = try_get(&rt, &mut pool, get) else {
         panic!(rt; "it was served");
     };
     assert_lent(&rt, &pool, 2);
-    // Its approval is looked at and becomes idle, and it is notified.
+    // Its approval is read and becomes idle, and the get is notified.
     let notified = open(&rt, &mut pool, 0);
     assert_lent(&rt, &pool, 3);
     assert_equal(&rt, notified.map(|get| get.number), Some(0));
-    // It is looked at and ends, and the connection goes out; then that is looked at, and becomes
-    // idle again.
+    // The get is read and ends, and the connection is checked out; then the connection is read, and
+    // is idle again.
     let (key, conn) = served_by(&rt, &mut pool, get);
     assert_lent(&rt, &pool, 2);
     assert!(rt; put_back(&rt, &mut pool, key, conn).is_none());
     assert_lent(&rt, &pool, 2);
-    // A get that is given up is looked at.
+    // A get that is given up is read.
     let get = begin(&rt, &mut pool);
     cancel(&rt, &mut pool, get);
     assert_lent(&rt, &pool, 1);
@@ -166,8 +166,8 @@ fn steps_tell_what_they_lent(rt: HostRuntime) {
     assert_lent(&rt, &pool, 0);
 }
 
-/// 25,000 gets wait for three connections, and whoever is notified tries, is served and returns
-/// (upstream's test_lots_of_waiters).
+/// 25,000 gets wait for three connections. Each notified one tries, is served and returns its
+/// connection (bb8's test_lots_of_waiters).
 #[test]
 fn crowd_is_served_over_three_connections(rt: HostRuntime) {
     let mut pool = crowded(&rt, rt.alloc(), 3);
@@ -191,7 +191,7 @@ fn crowd_is_served_over_three_connections(rt: HostRuntime) {
         panic!(rt; "nobody was notified");
     };
     assert_equal(&rt, (first.number, second.number, third.number), (0, 1, 2));
-    // The first one is served, and with its connection all but the two that the other openings
+    // The first one is served, and its connection serves all but the two that the other attempts
     // notified.
     assert_equal(&rt, serve_from(&rt, &mut pool, first), 24_998);
     assert_equal(&rt, serve_from(&rt, &mut pool, second), 1);
@@ -206,8 +206,8 @@ fn crowd_is_served_over_three_connections(rt: HostRuntime) {
     assert_equal(&rt, state.statistics.pending_gets(), 0);
 }
 
-/// Of 25,000 that wait the first and then every second one are let go; one opening notifies get 1,
-/// and its return get 3.
+/// Of 25,000 waiters the first and then every second one are cancelled. One opened connection
+/// notifies get 1, and its return get 3.
 #[test]
 fn oldest_that_is_left_is_notified(rt: HostRuntime) -> Result<(), Fail> {
     let mut pool = crowded(&rt, rt.alloc(), 1);

@@ -1,4 +1,4 @@
-//! Steps that hand over: whoever is notified tries in the same call.
+//! Steps that hand off: the notified get tries in the same call.
 
 use super::steps::{Colour, NOW};
 use super::{assert_equal, granted, unchecked};
@@ -11,7 +11,7 @@ use bb8_core::internals::{
 use std::alloc::Global;
 use std::process::Abort;
 
-/// A pool of one connection, which is checked or not.
+/// Returns a pool with one slot, with the check on or off.
 fn one(rt: &impl Abort, alloc: Global, checked: bool) -> PoolInternals<Colour> {
     let config = Config {
         test_on_check_out: checked,
@@ -21,7 +21,7 @@ fn one(rt: &impl Abort, alloc: Global, checked: bool) -> PoolInternals<Colour> {
     PoolInternals::new(alloc, config)
 }
 
-/// Begins a get, which waits.
+/// Begins a get that waits.
 fn wait(rt: &impl Abort, pool: &mut PoolInternals<Colour>) -> GetKey {
     let Ok(BeginAnswer::Begun(get)) = pool.begin(NOW) else {
         panic!(rt; "no get began");
@@ -41,7 +41,7 @@ fn claim(rt: &impl Abort, pool: &mut PoolInternals<Colour>, number: u64) -> Key 
     approval
 }
 
-/// The key and the connection that a try was served, or took to check.
+/// Returns the key and the connection with which a try was served, or which it took for a check.
 fn out(
     rt: &impl Abort,
     tried: Option<TryAnswer<Colour>>,
@@ -58,8 +58,8 @@ fn out(
     (key, found)
 }
 
-/// Asserts that a try found nothing, waits, and asks for so many approvals, the first of this
-/// number.
+/// Asserts that a try found no idle connection, waits, and caused this many approvals, the first
+/// with this number.
 fn assert_waits(rt: &impl Abort, tried: Option<TryAnswer<Colour>>, first: u64, count: u32) {
     let Some(TryAnswer::Waiting(grant)) = tried else {
         panic!(rt; "the get does not wait");
@@ -67,9 +67,9 @@ fn assert_waits(rt: &impl Abort, tried: Option<TryAnswer<Colour>>, first: u64, c
     assert_equal(&rt, grant, granted(first, count));
 }
 
-/// Gets 0, 1 and 2 wait for one connection. It comes, and 0 has it; it comes back, and 1 has it; it
-/// comes back broken, and 2 asks for another, which it has when it comes. Nobody waits when that
-/// one is given back, and it cannot be given back twice.
+/// Gets 0, 1 and 2 wait for one connection. It is opened, and serves 0; it is returned, and serves
+/// 1; it is returned broken, and 2 requests another, which serves it when it is opened. Nobody
+/// waits when that one is returned, and it cannot be returned twice.
 #[test]
 fn succeeds_handing_over_in_turn(rt: HostRuntime) {
     let mut pool = one(&rt, rt.alloc(), false);
@@ -108,7 +108,7 @@ fn succeeds_handing_over_in_turn(rt: HostRuntime) {
     assert!(rt; tried.is_none());
 }
 
-/// Get 0 waits, and asked for approval 0; a connection is added as 1, and 0 has it.
+/// Get 0 waits, and requested approval 0. A connection is added as 1, and serves 0.
 #[test]
 fn added_connection_is_handed_over(rt: HostRuntime) {
     let config = unchecked(2, None);
@@ -124,8 +124,8 @@ fn added_connection_is_handed_over(rt: HostRuntime) {
     assert_equal(&rt, key.number, 1);
 }
 
-/// Gets 0, 1 and 2 wait for one connection, which is checked. 0 has it and is cancelled, and 1 has
-/// it; its check fails, and 2 asks for another.
+/// Gets 0, 1 and 2 wait for one connection, with the check on. 0 takes it and is cancelled, and 1
+/// takes it; its check fails, and 2 requests another.
 #[test]
 fn check_hands_over(rt: HostRuntime) {
     let mut pool = one(&rt, rt.alloc(), true);
@@ -157,8 +157,8 @@ fn check_hands_over(rt: HostRuntime) {
     assert_waits(&rt, tried, 1, 1);
 }
 
-/// Get 0 has the only connection, and 1 and 2 wait. It comes back with no hand-over; 1 was notified
-/// and gives up, and 2 has it.
+/// Get 0 has the only connection, and 1 and 2 wait. It is returned without a hand-off; 1 was
+/// notified and gives up, and 2 is served.
 #[test]
 fn give_up_hands_on(rt: HostRuntime) {
     let mut pool = one(&rt, rt.alloc(), false);

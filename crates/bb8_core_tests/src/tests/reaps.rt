@@ -1,4 +1,4 @@
-//! A reap of many connections, of which some are out, or are to stay.
+//! Reaps of many connections, of which some are checked out or must stay.
 
 use super::{SECOND, assert_equal, unchecked};
 use bb8_core::api::{Config, Moment, QueueStrategy};
@@ -7,14 +7,14 @@ use std::alloc::Global;
 use std::process::Abort;
 use std::time::Duration;
 
-/// Adds so many connections at a moment.
+/// Adds this many connections at a moment.
 fn add_all(rt: &impl Abort, pool: &mut PoolInternals<u64>, at: Moment, many: u64) {
     for number in 0..many {
         assert!(rt; pool.add(at, number, false).is_ok());
     }
 }
 
-/// Has a get be served, and answers what with.
+/// Serves a get, and returns its connection.
 fn serve(rt: &impl Abort, pool: &mut PoolInternals<u64>, at: Moment) -> (Key, u64) {
     let Ok(BeginAnswer::Begun(get)) = pool.begin(at) else {
         panic!(rt; "no get began");
@@ -25,7 +25,7 @@ fn serve(rt: &impl Abort, pool: &mut PoolInternals<u64>, at: Moment) -> (Key, u6
     (key, conn)
 }
 
-/// How many connections a reap closes, as they were idle too long, and as they lived too long.
+/// Reaps, and returns how many connections were closed by idle timeout, and by lifetime.
 fn reap(rt: &impl Abort, pool: &mut PoolInternals<u64>, at: Moment) -> (u64, u64) {
     let ReapAnswer::Reaped {
         closed,
@@ -41,8 +41,8 @@ fn reap(rt: &impl Abort, pool: &mut PoolInternals<u64>, at: Moment) -> (u64, u64
     both
 }
 
-/// 1,000 connections, of which three are out and the oldest, and so many idle ones as old as they
-/// are. These have lived a second at a reap; the others are half a second old.
+/// Returns a pool of 1,000 connections: the oldest three are checked out, and `old` idle ones are
+/// as old as these. They have lived a second at a reap; the others are half a second old.
 fn crowd(rt: &impl Abort, alloc: Global, old: u64) -> PoolInternals<u64> {
     let config = Config {
         max_lifetime: Some(Duration::from_secs(1)),
@@ -62,9 +62,9 @@ fn crowd(rt: &impl Abort, alloc: Global, old: u64) -> PoolInternals<u64> {
     pool
 }
 
-/// Of 1,000 connections three are out, the oldest, and alone old enough, and a reap closes none;
-/// where 40 idle ones are as old, it closes these. It looks at those, at the three, at the next one
-/// by birth, and at the one that has been idle longest.
+/// Of 1,000 connections the oldest three, which alone are old enough, are checked out, and a reap
+/// closes none. If 40 idle ones are as old, it closes these. It reads those, the three, the next
+/// one by birth, and the one that has been idle longest.
 #[test]
 fn reap_passes_what_is_out_and_old(rt: HostRuntime) {
     for (old, left) in [(0, 1000), (40, 960)] {
@@ -78,8 +78,8 @@ fn reap_passes_what_is_out_and_old(rt: HostRuntime) {
     }
 }
 
-/// 1,000 connections are idle, of which 990 are to be. The one that goes out first goes out and
-/// comes back half a second later.
+/// Returns a pool of 1,000 idle connections with a `min_idle` of 990. The first one is checked out
+/// and returned half a second later.
 fn many_idle(rt: &impl Abort, alloc: Global, queue_strategy: QueueStrategy) -> PoolInternals<u64> {
     let config = Config {
         max_lifetime: None,
@@ -98,9 +98,9 @@ fn many_idle(rt: &impl Abort, alloc: Global, queue_strategy: QueueStrategy) -> P
     pool
 }
 
-/// All but one are idle for the limit. A reap closes the ten that entered first, by both
-/// strategies, and looks at no more; once the last one is idle for the limit, too, nothing is left
-/// to close.
+/// All connections but one have reached the idle timeout. A reap closes the ten that became idle
+/// first, with either strategy, and reads no others. Once the last one has reached the timeout,
+/// too, there is nothing left to close.
 #[test]
 fn reap_spares_what_is_to_be_idle(rt: HostRuntime) {
     for (queue_strategy, back, closed, stays, next) in [

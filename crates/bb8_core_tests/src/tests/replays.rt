@@ -1,4 +1,4 @@
-//! Replays from other first numbers than 0, which no script can spell.
+//! Replays with other first numbers than 0, which no script can express.
 
 use super::{assert_equal, served, unchecked};
 use bb8_core::api::{Config, Moment, State};
@@ -11,10 +11,10 @@ use std::test::Fail;
 /// The greatest number that is ever given.
 const LAST: u64 = 18_446_744_073_709_551_614;
 
-/// What happens at a moment in nanoseconds, and what it is to be answered.
+/// An event at a moment in nanoseconds, and its expected result.
 type ReplayLine = (u64, Act, Answer);
 
-/// The events of a table.
+/// Returns the events of a table.
 fn events_of(alloc: Global, lines: &[ReplayLine]) -> Result<Vec<Event>, AllocError> {
     let mut events = Vec::new(alloc);
     for (moment, act, _) in lines {
@@ -26,7 +26,7 @@ fn events_of(alloc: Global, lines: &[ReplayLine]) -> Result<Vec<Event>, AllocErr
     Ok(events)
 }
 
-/// Asserts that the answers are those of the table.
+/// Asserts that the results are those of the table.
 fn assert_answers(rt: &impl Abort, lines: &[ReplayLine], answers: &[Answer]) {
     assert_equal(&rt, answers.len(), lines.len());
     for ((moment, act, wanted), answer) in lines.iter().zip(answers) {
@@ -34,8 +34,8 @@ fn assert_answers(rt: &impl Abort, lines: &[ReplayLine], answers: &[Answer]) {
     }
 }
 
-/// Runs a table, from a first number of connections and approvals and one of gets on, and gives
-/// what the pool tells at the end.
+/// Replays a table with these first numbers of records and of gets, and returns the pool's state at
+/// the end.
 fn shown_after_from(
     rt: &impl Abort,
     alloc: Global,
@@ -51,8 +51,8 @@ fn shown_after_from(
     Ok(pool.state(Moment(0)))
 }
 
-/// The last number of a get is given, and the next get is refused; the last two of approvals are,
-/// and three more are withheld.
+/// The last number of a get is given, and the next get is refused. The last two numbers of
+/// approvals are given, and three more are withheld.
 #[test]
 fn gives_no_number_past_the_last(rt: HostRuntime) -> Result<(), Fail> {
     let gets = [
@@ -89,8 +89,8 @@ fn gives_no_number_past_the_last(rt: HostRuntime) -> Result<(), Fail> {
     Ok(())
 }
 
-/// Two numbers are left: a fill is granted both and withheld one; then an adding is withheld, a
-/// broken one is called broken, and a fill is granted none and withheld one.
+/// Two numbers are left: a fill is granted both, and one is withheld. Then an add is withheld, a
+/// broken connection is reported as broken, and a fill is granted none, and one is withheld.
 #[test]
 fn used_up_numbers_withhold_grants_and_addings(rt: HostRuntime) -> Result<(), Fail> {
     let last_two = Grant {

@@ -10,7 +10,7 @@ use std::process::Abort;
 
 pub(super) const NOW: Moment = Moment(0);
 
-/// A connection that is handed on and never copied.
+/// A connection that is moved and never copied.
 #[derive(Debug, PartialEq, Eq, Drop)]
 pub(super) enum Colour {
     Red,
@@ -18,7 +18,7 @@ pub(super) enum Colour {
     Blue,
 }
 
-/// Has a get be served.
+/// Serves a get.
 pub(super) fn served_by(
     rt: &impl Abort,
     pool: &mut PoolInternals<Colour>,
@@ -53,7 +53,7 @@ fn take(rt: &impl Abort, pool: &mut PoolInternals<Colour>) -> (Key, Colour) {
     (key, conn)
 }
 
-/// Opens the connection of an approval, by its number.
+/// Opens the connection of the approval with this number.
 fn enter(rt: &impl Abort, pool: &mut PoolInternals<Colour>, number: u64, conn: Colour) {
     let key = pool.find(number).expect(rt, "the approval stands");
     let Ok(OpenedAnswer::Entered(None)) = pool.opened(NOW, key, conn) else {
@@ -61,7 +61,7 @@ fn enter(rt: &impl Abort, pool: &mut PoolInternals<Colour>, number: u64, conn: C
     };
 }
 
-/// A pool of three connections, opened in the order 1, 0, 2.
+/// Returns a pool of three connections, opened in the order 1, 0, 2.
 fn three_idle(rt: &impl Abort, alloc: Global) -> PoolInternals<Colour> {
     let config = unchecked(3, Some(3));
     assert!(rt; config.is_lawful());
@@ -80,7 +80,7 @@ fn assert_served(rt: &impl Abort, pool: &mut PoolInternals<Colour>, number: u64,
     assert_equal(&rt, served, conn);
 }
 
-/// A pool whose numbers begin at 7 and whose gets begin at 40, with one approval that was claimed.
+/// Returns a pool whose records begin at 7 and whose gets begin at 40, with one claimed approval.
 fn one_claimed(rt: &impl Abort, alloc: Global) -> (PoolInternals<Colour>, Key) {
     let config = unchecked(2, Some(1));
     assert!(rt; config.is_lawful());
@@ -137,7 +137,8 @@ fn failed_opening_ends_its_approval(rt: HostRuntime) {
     assert!(rt; pool.find(7).is_none());
 }
 
-/// Two connections are out, of which the later one stands where an ended one stood.
+/// Returns a pool with two connections checked out; the later one has the table index of an ended
+/// one.
 fn place_used_again(rt: &impl Abort, alloc: Global) -> (PoolInternals<Colour>, Key, Key, Key) {
     let config = unchecked(2, Some(1));
     assert!(rt; config.is_lawful());
@@ -209,7 +210,7 @@ fn stale_keys_name_the_right_get(rt: HostRuntime) {
         place: taken_over,
     };
     let (key, conn, _) = served_by(&rt, &mut pool, stale);
-    // It is searched for as it is looked at, and as it ends.
+    // It is searched for when it is read, and when it ends.
     assert_equal(&rt, pool.searched(), 2);
     assert_equal(&rt, (key.number, conn), (0, Colour::Red));
     assert!(rt; pool.find_get(0).is_none());

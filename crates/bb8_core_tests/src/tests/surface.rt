@@ -1,4 +1,4 @@
-//! The configuration, the figures and the texts.
+//! The configuration, the statistics and the texts.
 
 use super::{assert_equal, served};
 use bb8_core::api::{Config, Memory, QueueStrategy, Statistics};
@@ -22,7 +22,7 @@ fn default_configuration(rt: HostRuntime) {
     assert!(rt; config.is_lawful());
 }
 
-/// Both limits, the timeout and the rate of the reaper are in nanoseconds.
+/// Returns settings; limits, timeout and reaper rate are in nanoseconds.
 fn limited(
     (max_size, min_idle): (u32, Option<u32>),
     (max_lifetime, idle_timeout): (Option<u64>, Option<u64>),
@@ -92,9 +92,9 @@ fn text_of_refused_memory(rt: HostRuntime) -> Result<(), Fail> {
     Ok(())
 }
 
-/// A state has one count of what its steps are lent: with a second one, in which a step could look
-/// unseen, it would be larger. The last three are a `Duration` of the settings, two numbers that
-/// tell what is closed when it comes back, and two counters.
+/// A state has one access counter; with a second one, in which a step could end its own unseen, it
+/// would be larger. The last three summands are a `Duration` of the settings, two numbers that
+/// decide what is closed when it is returned, and two counters.
 #[test]
 fn state_has_one_count(rt: HostRuntime) {
     assert_equal(&rt, size_of::<PoolInternals<u64>>(), 568 + 16 + 16 + 16);

@@ -1,4 +1,4 @@
-//! One state between two threads.
+//! One state shared by two threads.
 
 use super::{assert_equal, granted, unchecked};
 use bb8_core::api::Moment;
@@ -6,7 +6,7 @@ use bb8_core::internals::{ClaimAnswer, PoolInternals};
 use std::sync::Mutex;
 use std::thread;
 
-/// One thread fills the state behind a lock, and the other finds what it left.
+/// One thread fills the state behind a lock, and the other one reads it.
 #[test]
 fn state_between_two_threads(rt: HostRuntime) {
     let config = unchecked(1, Some(1));

@@ -1,4 +1,4 @@
-//! The audit of a history: whether what the seats noted is the history.
+//! The audit of a history: whether the notes of all seats are the history.
 ghost use Rattle.std.specs.Prelude.{◌≡◌, ℕ, true, All, Some, length, slice_get};
 ghost use Rattle.std.specs.Bool.{Decides};
 ghost use Rattle.std.specs.List.{Contains, sum_by};
@@ -9,14 +9,14 @@ use super::same::is_same;
 use super::seats::Notes;
 use bb8_core::replay::Answer;
 
-/// Whether no note is missing.
+/// Returns whether no note is missing.
 fn is_complete(notes: &[Notes]) -> bool
     ensures { Decides result (All (λ n. n.missing ≡ 0) notes.now) }
 {
     notes.iter().all(|note| note.missing == 0)
 }
 
-/// Whether there are so many notes.
+/// Returns whether there are as many notes as entries.
 fn are_as_many(entries: usize, notes: &[Notes]) -> bool
     ensures { Decides result (sum_by (λ n. length n.noted.items) notes.now ≡ entries) }
 {
@@ -31,12 +31,13 @@ fn are_as_many(entries: usize, notes: &[Notes]) -> bool
     left == 0
 }
 
-/// Where a note of that index stands if the indices rise. It is a guess, and decides nothing.
+/// Returns where a note with this index would be if the indexes rise. It is a guess, and decides
+/// nothing.
 fn guess(noted: &[(u64, Answer)], index: u64) -> usize {
     noted.partition_point(|note| note.0 < index)
 }
 
-/// Whether this note stands there.
+/// Returns whether this note is at an index of the list.
 fn stands_at(noted: &[(u64, Answer)], at: usize, index: u64, answer: Answer) -> bool
     ensures { Decides result (slice_get noted.now at ≡ Some (index, answer)) }
 {
@@ -46,8 +47,8 @@ fn stands_at(noted: &[(u64, Answer)], at: usize, index: u64, answer: Answer) -> 
     }
 }
 
-/// Whether a seat noted this. Where the indices rise, as they do in a run, it is found without a
-/// search.
+/// Returns whether a seat has this note. If the indexes rise, as they do in a run, no search is
+/// needed.
 fn has_note(noted: &[(u64, Answer)], index: u64, answer: Answer) -> bool
     ensures { Decides result (Contains noted.now (index, answer)) }
 {
@@ -62,7 +63,7 @@ fn has_note(noted: &[(u64, Answer)], index: u64, answer: Answer) -> bool
     false
 }
 
-/// Whether a seat noted this of an entry of its own.
+/// Returns whether a seat has a note of this entry, which must be its own.
 fn has_noted(notes: &Notes, index: u64, entry: Entry) -> bool
     ensures { Decides result
         (Contains (lines_by notes.now) (index, (entry.seat, entry.answer))) }
@@ -73,7 +74,7 @@ fn has_noted(notes: &Notes, index: u64, entry: Entry) -> bool
     has_note(&notes.noted, index, entry.answer)
 }
 
-/// Whether this was noted by its seat.
+/// Returns whether the entry's seat has a note of it.
 fn is_noted(notes: &[Notes], index: u64, entry: Entry) -> bool
     ensures { Decides result (Contains (lines_noted notes.now)
         (index, (entry.seat, entry.answer))) }
@@ -86,7 +87,7 @@ fn is_noted(notes: &[Notes], index: u64, entry: Entry) -> bool
     false
 }
 
-/// Whether each entry was noted by its seat.
+/// Returns whether each entry was noted by its seat.
 fn are_noted(entries: &[Entry], notes: &[Notes]) -> bool
     ensures { Decides result (All (Contains (lines_noted notes.now)) (lines_from 0 entries.now)) }
 {
@@ -98,9 +99,9 @@ fn are_noted(entries: &[Entry], notes: &[Notes]) -> bool
     true
 }
 
-/// Whether no note is missing and the notes together are the entries' indices with their seats and
-/// answers, each once. Then each seat's entries are as many as the steps that it made. It needs no
-/// memory.
+/// Returns whether no note is missing, and the notes together are the indexes of the entries with
+/// their seats and results, each once. Then each seat has as many entries as it made steps. It
+/// allocates nothing.
 pub fn audit(entries: &[Entry], notes: &[Notes]) -> bool
     ensures account { Decides result (IsAccount entries.now notes.now) }
     ensures seats { result ≡ true

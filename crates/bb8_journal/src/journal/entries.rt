@@ -1,5 +1,5 @@
-//! What the lock of a shared journal holds: a pool, the history of all that was done to it, and the
-//! book of the seats' steps.
+//! The contents of a shared journal's lock: a pool, its history, and the book that counts the steps
+//! of all seats.
 ghost use Rattle.std.specs.Prelude.{◌≡◌, ◌+◌, ◌≤◌, ◌++◌, ◌∷◌, [], true, IfOk, OnErr, IsOk, length, vec_len, vec_capacity, map, ℕ};
 ghost use Rattle.std.specs.List.{sum_by};
 ghost use Rattle.bb8_core.specs.declared.replay.events.Answer.{Answer as Told};
@@ -19,23 +19,23 @@ use std::alloc::Global;
 use std::marker::{Brand, Model};
 use std::sync::ledger::{Book, Ledger, Share};
 
-/// An event that a seat made, and what it was answered. Entries are counted from 0.
+/// An event that a seat made, with its result. Entries are numbered from 0.
 #[derive(Clone, Copy, Debug, PartialEq, Eq)]
 pub struct Entry {
     /// The number of the seat.
     pub seat: usize,
-    /// What it made happen; also what did not fit, and changed nothing.
+    /// The event. It may be one that did not fit and changed nothing.
     pub event: Event,
-    /// What it was answered.
+    /// The result.
     pub answer: Answer,
 }
 
-/// No memory for an entry. Nothing has changed.
+/// Memory for an entry was refused. Nothing has changed.
 #[derive(Clone, Copy, Debug, PartialEq, Eq)]
 pub struct NoRoom;
 
-/// The ledger by which a journal's seats count their steps, one part a seat. It names the
-/// configuration that the journal was opened with. A program names `Brand`.
+/// The ledger with which the seats of a journal count their steps; each seat has one part. It names
+/// the configuration with which the journal was opened. A program names `Brand`.
 pub trait Recorded: Ledger {
     ghost use Rattle.bb8_types.specs.Settings.{Settings};
 
@@ -49,8 +49,8 @@ impl Recorded for Brand {
     ghost config = { default_settings };
 }
 
-/// A pool with its history: the entries replay to the pool, they are as many as the book counts
-/// steps, and there is room for an entry of each ending event that may come. Contracts see it as
+/// A pool with its history. The entries replay to the pool, they are as many as the book counts
+/// steps, and there is room for an entry of each event that may still end something. Contracts see
 /// its entries and its pool.
 #[derive(Drop)]
 pub struct Journal<L: Recorded> {
@@ -84,7 +84,7 @@ impl<L: Recorded> Model for Journal<L> {
     } };
 }
 
-/// Whether it is an ending event: a get, a guard or a handle ends.
+/// Returns whether an event ends a get, a check-out or a handle.
 fn is_ending(act: Act) -> bool
     ensures { result ≡ is_named_ending act }
 {
@@ -94,8 +94,8 @@ fn is_ending(act: Act) -> bool
     )
 }
 
-/// Makes room for an entry, and for one of each ending event that may come then, if memory is
-/// there.
+/// Allocates for an entry, and for one of each ending event that may come after it. Returns whether
+/// memory was granted.
 fn reserve(pool: &PoolInternals<u64>, history: &mut Vec<Entry>) -> bool
     requires { vec_len history.old + endings_of pool.now ≤ vec_capacity history.old }
     ensures items { history.new.items ≡ history.old.items }
@@ -110,9 +110,9 @@ fn reserve(pool: &PoolInternals<u64>, history: &mut Vec<Entry>) -> bool
     }
 }
 
-/// Whether there is room for the entry of an event and for those of the ending events after it.
-/// Room is made, if memory is there; where it is not, a fitting ending event has its room all the
-/// same.
+/// Returns whether there is room for the entry of an event, and for those of the ending events
+/// after it. It allocates if needed. If memory is refused, an ending event that fits still has its
+/// room.
 fn make_room(pool: &PoolInternals<u64>, history: &mut Vec<Entry>, event: Event) -> bool
     requires { vec_len history.old + endings_of pool.now ≤ vec_capacity history.old }
     ensures items { history.new.items ≡ history.old.items }
@@ -135,10 +135,10 @@ impl<L: Recorded> Journal<L> {
     ghost use Rattle.bb8_journal.specs.Notes.{steps_of, Makes, notes_of};
     ghost use Rattle.bb8_journal.specs.History.{entry, IsUnwritten, Replays, AfterEachEntry};
 
-    /// Lets an event happen that a seat makes, and writes it down. It answers the entry's index and
-    /// what the event was answered, `Unfit` where it did not fit. `NoRoom` comes where memory for
-    /// an entry was refused, and never to an ending event that fits: a `GiveUp`, a `PutBack`, a
-    /// `Detach`, a `Leave` or a `Close`.
+    /// Makes a seat's event and records it. Returns the index of the entry and the result of the
+    /// event, `Unfit` if it did not fit. Fails with `NoRoom` if memory for an entry is refused;
+    /// never for an ending event that fits: a `GiveUp`, a `PutBack`, a `Detach`, a `Leave` or a
+    /// `Close`.
     pub fn apply(&mut self, seat: &mut Seat<L>, event: Event) -> Result<(u64, Answer), NoRoom>
         ensures index { IfOk result (λ r. r.0 ≡ length self.old.entries) }
         ensures entry { IfOk result (λ r.
@@ -171,8 +171,8 @@ impl<L: Recorded> Journal<L> {
         Ok((index, answer))
     }
 
-    /// What holds of every journal, whoever has it: its entries replay to its pool, and after each
-    /// beginning of them the pool keeps the limits, the laws and the promises. It does nothing.
+    /// States what holds of every journal: its entries replay to its pool, and after each prefix of
+    /// them the pool keeps the limits, the laws and the promises. It does nothing.
     pub fn limits(&self)
         ensures replays { Replays L.config self.now.entries self.now.pool }
         ensures limits { AfterEachEntry KeepsLimits L.config self.now.entries }
@@ -182,8 +182,8 @@ impl<L: Recorded> Journal<L> {
         let _ = &self.history;
     }
 
-    /// With no entry yet. The book is new, and the share has none of its parts. Room is kept for
-    /// the end of the one handle.
+    /// Returns a journal without entries. The book is new, and the share has none of its parts.
+    /// Room is reserved for the end of the one handle.
     pub(crate) fn new(
         alloc: Global,
         config: Config,
@@ -207,9 +207,9 @@ impl<L: Recorded> Journal<L> {
         })
     }
 
-    /// The history, the state that it leads to, and what all seats noted. Each seat's part of the
-    /// ledger shows how many steps it made, so the entries are as many as the steps of all seats.
-    /// The list of notes is given, and has room for those of each seat.
+    /// Returns the history, the final state, and the notes of all seats. Each seat's part of the
+    /// ledger shows how many steps it made, so there are as many entries as steps of all seats. The
+    /// caller passes the list of notes, with room for those of each seat.
     pub(crate) fn close(
         self,
         seats: Vec<Seat<L>>,

@@ -1,10 +1,10 @@
-//! Lists that need no more memory for so many elements.
+//! Lists with reserved memory.
 ghost use Rattle.std.specs.Prelude.{◌≡◌, ◌≤◌, [], IfOk, vec_len, vec_capacity};
 
 use bb8_core::api::Memory;
 use std::alloc::Global;
 
-/// An empty list with room for so many.
+/// Returns an empty list with room for `count` elements.
 pub(crate) fn with_room<T: Drop>(alloc: Global, count: usize) -> Result<Vec<T>, Memory>
     ensures empty { IfOk result (λ list. list.items ≡ []) }
     ensures len { IfOk result (λ list. vec_len list ≡ 0) }

@@ -1,4 +1,4 @@
-//! Whether two answers are one, field by field.
+//! Equality of results, field by field.
 ghost use Rattle.std.specs.Prelude.{◌≡◌};
 ghost use Rattle.std.specs.Bool.{Decides};
 
@@ -6,14 +6,14 @@ use bb8_core::api::{State, Statistics};
 use bb8_core::internals::Grant;
 use bb8_core::replay::Answer;
 
-/// Whether two grants are one.
+/// Returns whether two grants are equal.
 fn is_same_grant(one: Grant, other: Grant) -> bool
     ensures { Decides result (one ≡ other) }
 {
     one.first == other.first && one.count == other.count && one.withheld == other.withheld
 }
 
-/// Whether two numbers, or none, are one.
+/// Returns whether two optional numbers are equal.
 fn is_same_number(one: Option<u64>, other: Option<u64>) -> bool
     ensures { Decides result (one ≡ other) }
 {
@@ -23,7 +23,7 @@ fn is_same_number(one: Option<u64>, other: Option<u64>) -> bool
     }
 }
 
-/// Whether two statistics are one.
+/// Returns whether two statistics are equal.
 fn is_same_statistics(one: Statistics, other: Statistics) -> bool
     ensures { Decides result (one ≡ other) }
 {
@@ -42,7 +42,7 @@ fn is_same_statistics(one: Statistics, other: Statistics) -> bool
         && one.connections_detached == other.connections_detached
 }
 
-/// Whether two figures are one.
+/// Returns whether two states are equal.
 fn is_same_state(one: State, other: State) -> bool
     ensures { Decides result (one ≡ other) }
 {
@@ -51,7 +51,7 @@ fn is_same_state(one: State, other: State) -> bool
         && is_same_statistics(one.statistics, other.statistics)
 }
 
-/// Whether two answers are one.
+/// Returns whether two results are equal.
 pub(crate) fn is_same(one: Answer, other: Answer) -> bool
     ensures { Decides result (one ≡ other) }
 {

@@ -1,4 +1,4 @@
-//! A seat at the journal: who makes steps, how many it made, and what it noted of them.
+//! A seat of the journal: one thread, the count of its steps, and its notes of them.
 ghost use Rattle.std.specs.Prelude.{◌≡◌, ◌+◌, ◌<◌, ◌≤◌, ◌^◌};
 
 use bb8_core::replay::Answer;
@@ -6,20 +6,19 @@ use std::alloc::Global;
 use std::marker::Model;
 use std::sync::ledger::{Book, Ledger, Share};
 
-/// What a seat noted: the index and the answer of each of its steps, but for those that are
-/// missing.
+/// The notes of a seat: the index and the result of each of its steps, except those missing.
 #[derive(Drop)]
 pub struct Notes {
     /// The number of the seat.
     pub seat: usize,
-    /// The index and the answer of each step, in the order of its steps.
+    /// The index and the result of each step, in the order of its steps.
     pub noted: Vec<(u64, Answer)>,
-    /// How many of its steps it could not note, for want of memory.
+    /// The count of steps without a note, because memory was refused.
     pub missing: u64,
 }
 
-/// One of those who make steps. It has one part of the journal's ledger, whose amount is the number
-/// of its steps. Contracts see it as what it noted.
+/// One thread's place at a journal. It has one part of the journal's ledger, whose amount is the
+/// count of its steps. Contracts see its notes.
 #[derive(Drop)]
 pub struct Seat<L: Ledger> {
     number: usize,
@@ -42,7 +41,7 @@ impl<L: Ledger> Model for Seat<L> {
 impl<L: Ledger> Seat<L> {
     ghost use Rattle.bb8_journal.specs.Notes.{Noted, steps_of, Makes, notes_of, fresh};
 
-    /// A seat that made no step, with one part of the ledger.
+    /// Returns a seat without steps, with one part of the ledger.
     pub(crate) fn new(alloc: Global, number: usize, steps: Share<L>) -> Seat<L>
         requires part { steps.parts ≡ 1 }
         requires none { steps.amount ≡ 0 }
@@ -56,14 +55,14 @@ impl<L: Ledger> Seat<L> {
         }
     }
 
-    /// Its number.
+    /// Returns its number.
     pub fn number(&self) -> usize
         ensures { result ≡ self.now.seat }
     {
         self.number
     }
 
-    /// Counts a step, and notes its index and answer; the note is missing where memory for it was
+    /// Counts a step, and notes its index and result. The note is missing if memory for it is
     /// refused.
     pub(crate) fn count(&mut self, book: &mut Book<L>, index: u64, answer: Answer)
         requires few { book.old.total + 1 < 2 ^ 64 }
@@ -84,7 +83,7 @@ impl<L: Ledger> Seat<L> {
         }
     }
 
-    /// What it noted, and its part of the ledger.
+    /// Returns its notes, and its part of the ledger.
     pub(crate) fn into_parts(self) -> (Notes, Share<L>)
         ensures notes { notes_of result.0 ≡ self }
         ensures part { result.1.parts ≡ 1 }

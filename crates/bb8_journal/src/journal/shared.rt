@@ -1,4 +1,4 @@
-//! A journal that several threads share: one lock round it, and the seats, one for each thread.
+//! A journal that several threads share: one lock around it, and one seat for each thread.
 ghost use Rattle.std.specs.Prelude.{◌≡◌, ◌<◌, ◌≤◌, true, IfOk, OnErr, length, map, vec_len, vec_capacity};
 ghost use Rattle.std.specs.List.{sum_by, range_with_len};
 ghost use Rattle.bb8_journal.specs.History.{Replays, AfterEachEntry};
@@ -17,9 +17,8 @@ use std::marker::PhantomData;
 use std::sync::ledger::{Blank, Ledger, Share};
 use std::sync::{Mutex, Wait};
 
-/// How many seats there are: as many as the ledger has parts. It is a struct of its own as the
-/// toolchain finds the parts in a ghost fact under the bound `Ledger`, and not under one that has
-/// it for a supertrait.
+/// The count of seats: as many as the ledger has parts. It is a struct of its own because of
+/// *supertrait-ghosts* (docs/TOOLCHAIN.md).
 #[derive(Drop)]
 struct Seats<L: Ledger> {
     count: usize,
@@ -38,7 +37,7 @@ pub struct SharedJournal<L: Recorded> {
     ghost room: { seats.count ≤ vec_capacity notes },
 }
 
-/// As many seats as are asked for, numbered from 0, each with one part of the share.
+/// Returns `seats` new seats, numbered from 0, each with one part of the share.
 fn cut<L: Ledger>(alloc: Global, rest: &mut Share<L>, seats: usize) -> Result<Vec<Seat<L>>, Memory>
     requires parts { rest.old.parts ≡ seats }
     requires amount { rest.old.amount ≡ 0 }
@@ -56,10 +55,9 @@ fn cut<L: Ledger>(alloc: Global, rest: &mut Share<L>, seats: usize) -> Result<Ve
 }
 
 impl<L: Recorded> SharedJournal<L> {
-    /// A journal with no entry, of a pool with one handle, and its seats, which are numbered from
-    /// 0. It asks for a blank ledger of as many parts as there are to be seats, at least one.
-    /// `Memory` comes where memory was refused: for the seats, for what `close` needs, or for the
-    /// entry of the handle's end.
+    /// Returns a journal without entries, of a pool with one handle, and its seats, numbered from
+    /// 0. It takes a blank ledger with as many parts as seats, at least one. Fails with `Memory` if
+    /// memory is refused: for the seats, for `close`, or for the entry of the handle's end.
     pub fn new(
         alloc: Global,
         config: Config,
@@ -92,7 +90,7 @@ impl<L: Recorded> SharedJournal<L> {
         ))
     }
 
-    /// How many seats there are.
+    /// Returns the count of seats.
     pub fn seats(&self) -> usize
         ensures count { result ≡ L.parts }
         ensures some { 0 < result }
@@ -100,9 +98,9 @@ impl<L: Recorded> SharedJournal<L> {
         self.seats.count
     }
 
-    /// Takes the lock, lets an event happen that a seat makes, and writes it down. It answers the
-    /// entry's index and what the event was answered, which is what the seat noted. `NoRoom` comes
-    /// where memory for the entry was refused, and never to an ending event that fits.
+    /// Acquires the lock, makes a seat's event and records it. Returns the index of the entry and
+    /// the result of the event, which the seat has noted. Fails with `NoRoom` if memory for the
+    /// entry is refused; never for an ending event that fits.
     pub fn step<R: Wait>(
         &self,
         rt: &R,
@@ -116,10 +114,10 @@ impl<L: Recorded> SharedJournal<L> {
         self.journal.lock(rt).apply(seat, event)
     }
 
-    /// The history, the state that it leads to, and what the seats noted, in the order in which
-    /// they are given. As many seats are asked for as there are: that they are this journal's, each
-    /// once, follows from their parts of its ledger. So the entries are as many as the steps that
-    /// the seats made. It takes no memory.
+    /// Returns the history, the final state, and the notes of the seats, in the given order. It
+    /// takes as many seats as there are; their parts of the ledger show that they are the seats of
+    /// this journal, each once. So there are as many entries as steps of the seats. It allocates
+    /// nothing.
     pub fn close(self, seats: Vec<Seat<L>>) -> (Vec<Entry>, PoolInternals<u64>, Vec<Notes>)
         requires { length seats.items ≡ L.parts }
         ensures replays { Replays L.config result.0.items result.1 }

@@ -1,5 +1,5 @@
-//! Transcripts made at random: each answer, and the figures then, are what the core's replay gives
-//! to the same events.
+//! Random transcripts: each result, and the state after it, is what the core's replay returns for
+//! the same events.
 
 use bb8::{Config, Moment, Runtime, Turn};
 use bb8_core::internals::PoolInternals;
@@ -16,14 +16,14 @@ use std::mem;
 use std::process::Abort;
 use std::test::Fail;
 
-/// How many transcripts there are, and how many steps and gets each has.
+/// The number of transcripts, and the steps and gets of each.
 const TRANSCRIPTS: u64 = 2000;
 
 const STEPS: u32 = 40;
 
 const GETS: u64 = 5;
 
-/// Where a get stands.
+/// The stage of a get.
 #[derive(Clone, Copy)]
 enum Life {
     Fresh,
@@ -34,7 +34,7 @@ enum Life {
     Ended,
 }
 
-/// A get, with a handle of its own or without, and the connection that its guard has.
+/// A get, with or without its own handle, and the connection of its guard.
 #[derive(Clone, Copy)]
 struct Caller {
     life: Life,
@@ -50,7 +50,7 @@ struct Named {
     checks: u64,
 }
 
-/// A transcript that is written, the core of its pool, and how its server answers.
+/// A transcript being written, the core of its pool, and how its server replies.
 #[derive(Drop)]
 struct Writer {
     alloc: Global,
@@ -63,13 +63,13 @@ struct Writer {
     /// When the reaper is due.
     due: u64,
     callers: Vec<Caller>,
-    /// The approvals that are claimed.
+    /// The claimed approvals.
     tasks: Vec<u64>,
     /// The connections that are or were the pool's.
     named: Vec<Named>,
-    /// Connections outside the pool, by index: detached ones, and those that were not added.
+    /// Connections outside the pool, by index: detached ones, and those whose add was refused.
     kept: Vec<Option<Named>>,
-    /// The name of the latest connection that no opening brought.
+    /// The name of the latest connection that was made without an attempt.
     made: u64,
     opening: Course,
     check: Course,
@@ -80,13 +80,13 @@ struct Writer {
     is_sound: bool,
 }
 
-/// One of these words, which the source picks.
+/// Returns one of these words, chosen by the source.
 fn pick<'a>(source: &RandomSource, words: &[&'a str]) -> &'a str {
     let index = source.index(words.len()).unwrap_or(0);
     words.get(index).copied().unwrap_or("")
 }
 
-/// The configuration of a transcript.
+/// Returns a random configuration.
 fn config_line(alloc: Global, source: &RandomSource) -> Result<String, Fault> {
     let size = source.below(4).saturating_add(1);
     let idle = source.below(size.saturating_add(1));
@@ -138,13 +138,14 @@ impl Writer {
         Ok(writer)
     }
 
-    /// Makes an event at the moment of the clock, and counts the connections that it drops.
+    /// Applies an event at the clock's moment, and counts the connections that it drops.
     fn apply(&mut self, act: Act) -> Answer {
         let at = Moment(self.clock);
         let Writer { core, known, .. } = self;
         let answer = apply(core, known, Event { at, act });
         let closed = match answer {
             Answer::Closed(..) if !matches!(act, Act::Detach(_)) => 1,
+            Answer::Late(_) => 1,
             Answer::Reaped { closed, .. } | Answer::Left(closed) => u64::from(closed),
             _ => 0,
         };
@@ -152,7 +153,7 @@ impl Writer {
         answer
     }
 
-    /// The moment that counts, and whether the pool is open.
+    /// Returns the effective moment, and whether the pool is open.
     fn look(&mut self) -> (u64, bool) {
         match self.apply(Act::Look) {
             Answer::Looked(moment, alive) => (moment.0, alive),
@@ -160,7 +161,7 @@ impl Writer {
         }
     }
 
-    /// A line, its answer, and how many connections there are then.
+    /// Writes a line and its result, and then how many connections there are.
     fn say(&mut self, verb: &str, number: u64, answer: LineAnswer) -> Result<(), Fault> {
         match answer {
             LineAnswer::Done => writeln!(self.text, "{verb} {number}")?,
@@ -181,7 +182,7 @@ impl Writer {
         broken
     }
 
-    /// A get begins.
+    /// Begins a get.
     fn begin(&mut self, n: u64) -> Result<Caller, Fault> {
         let owned = self.source.below(2) == 0;
         let life = match owned && self.apply(Act::Join) == Answer::Unfit {
@@ -196,7 +197,7 @@ impl Writer {
         })
     }
 
-    /// A get is given up that has not ended.
+    /// Gives a get up, if it has not ended.
     fn give_up(&mut self, caller: &mut Caller, reason: Reason) {
         match caller.life {
             Life::Ended => return,
@@ -212,7 +213,7 @@ impl Writer {
         }
     }
 
-    /// The connection of this number. It is sound that there is one.
+    /// Returns the connection of this number; it is an error of the test if there is none.
     fn named(&mut self, number: u64) -> Named {
         let found = self.named.iter().find(|named| named.number == number);
         self.is_sound &= found.is_some();
@@ -230,7 +231,7 @@ impl Writer {
         LineAnswer::Served(self.named(number).name)
     }
 
-    /// A check of the connection begins.
+    /// Begins a check of the connection.
     fn begin_check(&mut self, number: u64) {
         for named in self.named.iter_mut() {
             if named.number == number {
@@ -239,7 +240,7 @@ impl Writer {
         }
     }
 
-    /// A connection outside the pool goes to this index, and the one that was there is dropped.
+    /// Keeps a connection outside the pool at this index, and drops the one that was there.
     fn keep(&mut self, n: u64, named: Named) {
         if let Some(place) = self.kept.get_mut(n as usize) {
             if place.is_some() {
@@ -254,7 +255,7 @@ impl Writer {
         LineAnswer::TimedOut
     }
 
-    /// One poll. Of a closed pool only a get is served whose connection is checked.
+    /// Polls a get once. A closed pool serves only a get whose connection is being checked.
     fn poll(&mut self, caller: &mut Caller) -> LineAnswer {
         let (now, is_open) = self.look();
         match caller.life {
@@ -275,7 +276,7 @@ impl Writer {
         }
     }
 
-    /// A get tries, which holds nothing.
+    /// Makes the try of a get that holds no connection.
     fn try_get(&mut self, caller: &mut Caller, get: u64, deadline: u64, now: u64) -> LineAnswer {
         caller.life = Life::Begun(get, deadline, None);
         match self.apply(Act::Try(get)) {
@@ -288,7 +289,7 @@ impl Writer {
         }
     }
 
-    /// The check of the connection of this number, which a get holds, is polled.
+    /// Polls the check of this connection, which a get holds.
     fn poll_check(
         &mut self,
         caller: &mut Caller,
@@ -314,7 +315,7 @@ impl Writer {
         self.settle(caller, deadline, now)
     }
 
-    /// The deadline of a get that was not answered is compared.
+    /// Compares the deadline of a get without a result.
     fn settle(&mut self, caller: &mut Caller, deadline: u64, now: u64) -> LineAnswer {
         if now < deadline {
             return LineAnswer::Pending;
@@ -322,7 +323,7 @@ impl Writer {
         self.time_out(caller)
     }
 
-    /// The handle of a guard that has one leaves; then the line.
+    /// The guard's own handle leaves, if it has one; then writes the line.
     fn say_left(
         &mut self,
         caller: &Caller,
@@ -336,7 +337,7 @@ impl Writer {
         self.say(verb, n, answer)
     }
 
-    /// A guard is dropped or detached, a get is replaced by another one, or a get is polled.
+    /// Drops or detaches a guard, replaces a get, or polls one.
     fn go_on(&mut self, n: u64) -> Result<(), Fault> {
         let index = n as usize;
         let Some(mut caller) = self.callers.get(index).copied() else {
@@ -374,8 +375,8 @@ impl Writer {
         Ok(())
     }
 
-    /// A turn reaps and asks if a tick is due, claims, and polls all openings. If the pool is
-    /// closed, it gives all approvals back.
+    /// Makes a turn: it reaps and asks if a tick is due, claims, and polls all attempts. If the
+    /// pool is closed, it gives all approvals back.
     fn turn(&mut self) -> Result<(), Fault> {
         let (now, is_open) = self.look();
         if is_open && self.due <= now {
@@ -404,7 +405,7 @@ impl Writer {
         self.say("turn", moment, LineAnswer::Turned(turn))
     }
 
-    /// The openings that end in a turn.
+    /// Ends the attempts that end in a turn. After one that comes too late the pool asks.
     fn end_tasks(&mut self, is_open: bool) {
         if is_open && self.opening == Course::Lasts {
             return;
@@ -412,14 +413,17 @@ impl Writer {
         let fails = !is_open || self.opening == Course::Fails;
         let tasks = mem::replace(&mut self.tasks, Vec::new(self.alloc));
         for approval in tasks.iter() {
-            self.apply(match fails {
+            let answer = self.apply(match fails {
                 true => Act::Failed(*approval),
                 false => Act::Opened(*approval),
             });
+            if let Answer::Late(_) = answer {
+                self.apply(Act::Ask);
+            }
         }
     }
 
-    /// A connection is added: one that is kept, or that is made. One that is refused is kept.
+    /// Adds a kept or a new connection. If it is refused, it is kept.
     fn add(&mut self) -> Result<(), Fault> {
         let n = self.source.below(GETS);
         if self.source.below(2) == 0 {
@@ -455,7 +459,7 @@ impl Writer {
         self.say("add", n, answer)
     }
 
-    /// All connections are retired, or the pool is closed, and whether it was is asked.
+    /// Retires all connections or closes the pool, and asks whether it is closed.
     fn end(&mut self) -> Result<(), Fault> {
         let (verb, act) = match self.source.below(4) {
             0 => ("close", Act::Close),
@@ -472,7 +476,7 @@ impl Writer {
         self.say("is_closed", 0, answer)
     }
 
-    /// The clock is set, on or back, or the server is.
+    /// Sets the clock, forwards or backwards, or the server.
     fn set(&mut self) -> Result<(), Fault> {
         let span = self.source.below(400);
         match self.source.below(6) {
@@ -504,7 +508,7 @@ impl Writer {
         }
     }
 
-    /// All steps; then all figures, and the server's counts.
+    /// Writes all steps; then the state and the server's counts.
     fn write(&mut self) -> Result<(), Fault> {
         for n in 0..GETS {
             let caller = self.begin(n)?;
@@ -534,7 +538,7 @@ impl Writer {
     }
 }
 
-/// The transcripts of a fourth of the seeds.
+/// Runs the transcripts of a fourth of the seeds.
 fn are_answered<R: Runtime + Abort>(rt: R, fourth: u64) -> Result<(), Fail> {
     let first = fourth.saturating_mul(TRANSCRIPTS / 4);
     let mut answers: u64 = 0;

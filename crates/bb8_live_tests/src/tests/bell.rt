@@ -1,10 +1,10 @@
-//! The bells of a lock.
+//! The signals of a lock.
 
 use bb8_lock::Bell;
 use std::test::Fail;
 use std::time::{Clock, Duration};
 
-/// A ring after the count was read ends the sleep that follows at once, which would last ten
+/// A notification after the count was read ends the sleep that follows at once; it would last ten
 /// seconds.
 #[test]
 fn ring_before_the_sleep_is_not_lost(rt: HostRuntime) -> Result<(), Fail> {

@@ -1,6 +1,6 @@
-//! How often, and in which order, each call outside is made; and that none is made under the pool's
-//! lock, nor a connection dropped that a call closed: in each of them another thread is answered by
-//! the pool.
+//! How often, and in which order, each user callback is made; and that none is made under the
+//! pool's lock, nor a connection dropped that a call closed: during each one the pool serves
+//! another thread.
 ghost use Rattle.std.specs.Prelude.{Some, false};
 ghost use Rattle.bb8.specs.Parts.{IsBlankOf};
 ghost use Rattle.bb8.specs.Settings.{default_settings};
@@ -25,40 +25,38 @@ use std::test::Fail;
 use std::thread::{self, Threads};
 use std::time::Duration;
 
-/// The calls outside, and the drops of a connection and of what is under way. What is written down
-/// of one is its place here.
+/// The user callbacks, and the drops of a connection and of what is in progress. A callback is
+/// recorded by its position here.
 const CALLS: &str =
     "now connect poll_connect on_acquire poll_acquire is_valid poll_valid has_broken sink dropped ended";
 
-/// So many calls are written down between two looks; of those after them it is known that they were
-/// made.
+/// How many callbacks are recorded between two looks. Those after them are only counted.
 const WRITTEN: usize = 16;
 
-/// At this stage the other thread is to end.
+/// The stage at which the other thread ends.
 const ENDED: u64 = 3;
 
 /// What a test shares with its pool's manager, customizer, sink and clock, and with the
 /// connections.
 #[derive(Drop)]
 pub(super) struct Desk {
-    /// How many calls were made since the last look, and which the first of them were.
+    /// How many callbacks were made since the last look, and which the first of them were.
     made: Number,
     calls: Vec<Number>,
-    /// How often a test looked.
+    /// How often the test looked.
     looks: Number,
-    /// While a call waits, the other thread's own reading of the clock does not wait and is not
-    /// written down.
+    /// While a callback waits, the other thread's own clock readings neither wait nor are recorded.
     pub(super) stage: Number,
-    /// How many calls waited, and how many in vain.
+    /// How many callbacks waited, and how many in vain.
     pub(super) waited: Number,
     pub(super) missed: Number,
-    /// What the clock tells, in nanoseconds, and the moment of the last poll of an opening.
+    /// The clock's moment in nanoseconds, and the moment of the last poll of an attempt.
     moment: Number,
     polled_at: Number,
-    /// By how much each reading sets the clock on first.
+    /// By how much each reading first advances the clock.
     step: Number,
-    /// What comes of openings, preparations and checks: 0 passes, 1 lasts, 2 fails. A check that is
-    /// to last once, 3, passes then.
+    /// The results of attempts, preparations and checks: 0 passes, 1 is pending, 2 fails. A check
+    /// with 3 is pending once, and then passes.
     pub(super) opening: Number,
     preparing: Number,
     check: Number,
@@ -90,7 +88,7 @@ impl Desk {
         Ok(Arc::new(alloc, desk)?)
     }
 
-    /// Waits until the other thread was answered, where calls are to, and writes the call down.
+    /// Waits until the other thread was served, if callbacks have to, and records the callback.
     fn call(&self, call: &str) {
         match self.stage.get() {
             WAITING => return,
@@ -109,13 +107,13 @@ impl Desk {
         }
     }
 
-    /// Where the call of this number, from 0, is written down.
+    /// Returns the record of the callback at this position, from 0.
     fn written(&self, at: u64) -> Option<&Number> {
         self.calls.get(usize::try_from(at).ok()?)
     }
 }
 
-/// The place of a call among all.
+/// Returns the position of a callback in `CALLS`.
 fn place_of(call: &str) -> u64 {
     let mut place: u64 = 0;
     for name in CALLS.split(' ') {
@@ -127,7 +125,7 @@ fn place_of(call: &str) -> u64 {
     place
 }
 
-/// Asserts that since the last look just these calls were made, in this order.
+/// Asserts that since the last look exactly these callbacks were made, in this order.
 fn made(rt: &impl Abort, desk: &Desk, calls: &str) {
     let look = desk.looks.count();
     let mut wanted: u64 = 0;
@@ -152,7 +150,7 @@ fn made(rt: &impl Abort, desk: &Desk, calls: &str) {
     desk.made.set(0);
 }
 
-/// What a poll of this course answers.
+/// Returns the result of a poll of this course.
 fn answer<T: Drop>(course: u64, value: T) -> Poll<Result<T, Refused>> {
     match course {
         0 => Poll::Ready(Ok(value)),
@@ -161,7 +159,7 @@ fn answer<T: Drop>(course: u64, value: T) -> Poll<Result<T, Refused>> {
     }
 }
 
-/// A manager, a customizer, a sink, a clock, a gate or a connection that writes its calls down.
+/// A manager, a customizer, a sink, a clock, a gate or a connection that records its callbacks.
 pub(super) struct Teller {
     desk: Arc<Desk, Global>,
     is_connection: bool,
@@ -179,7 +177,7 @@ impl Drop for Teller {
     }
 }
 
-/// One that is no connection.
+/// Makes one that is no connection.
 pub(super) fn outside_on(desk: &Arc<Desk, Global>) -> Result<Teller, Memory> {
     Ok(Teller {
         desk: Arc::try_clone(desk)?,
@@ -187,7 +185,7 @@ pub(super) fn outside_on(desk: &Arc<Desk, Global>) -> Result<Teller, Memory> {
     })
 }
 
-/// A connection.
+/// Makes a connection.
 pub(super) fn connection(desk: &Arc<Desk, Global>) -> Result<Teller, Memory> {
     Ok(Teller {
         desk: Arc::try_clone(desk)?,
@@ -195,7 +193,7 @@ pub(super) fn connection(desk: &Arc<Desk, Global>) -> Result<Teller, Memory> {
     })
 }
 
-/// What is under way: an opening, a preparation or a check, whose end is written down.
+/// An attempt, a preparation or a check in progress, whose end is recorded.
 pub(super) struct UnderWay {
     desk: Option<Arc<Desk, Global>>,
 }
@@ -209,7 +207,7 @@ impl Drop for UnderWay {
     }
 }
 
-/// Writes the call down that begins it.
+/// Records the callback that begins it.
 fn begin(desk: &Arc<Desk, Global>, call: &str) -> UnderWay {
     desk.call(call);
     UnderWay {
@@ -306,14 +304,14 @@ impl Clock for Teller {
 }
 
 impl Gate for Teller {
-    /// Sets the clock on by a nanosecond; after the second turn it does not pause.
+    /// Advances the clock by a nanosecond, and ends the run after the second turn.
     fn pause(&mut self) -> bool {
         self.desk.moment.count();
         self.desk.moment.get() < 1002
     }
 }
 
-/// A pool all of whose calls outside are written down.
+/// A pool whose user callbacks are all recorded.
 pub(super) type TellerPool<R, L> = Pool<Teller, Teller, Teller, Teller, R, L>;
 
 /// A get of it.
@@ -328,7 +326,7 @@ struct Tools<'a, R> {
     rt: R,
     task: &'a MockTask,
     desk: &'a Arc<Desk, Global>,
-    /// Whether the pool checks what it lends.
+    /// Whether the pool checks connections at check-out.
     checks: bool,
 }
 
@@ -343,7 +341,7 @@ impl<R: Runtime + Abort> Tools<'_, R> {
         Ok(())
     }
 
-    /// Polls a get, which makes these calls.
+    /// Polls a get, and asserts these callbacks.
     fn poll<L: PoolParts>(&self, get: &mut TellerGet<'_, R, L>, calls: &str) {
         let polled = self.task.poll(get);
         self.made(calls);
@@ -358,8 +356,8 @@ impl<R: Runtime + Abort> Tools<'_, R> {
     }
 }
 
-/// A get that is served, one that is checked for long, one that times out then, and one whose
-/// connection is found broken as it is let go.
+/// A get that is served, one whose check is long pending, one that times out during it, and one
+/// whose connection is found broken when the get is cancelled.
 fn checked<R: Runtime + Abort, L: PoolParts>(
     tools: &Tools<'_, R>,
     pool: &TellerPool<R, L>,
@@ -394,8 +392,8 @@ fn checked<R: Runtime + Abort, L: PoolParts>(
     Ok(())
 }
 
-/// Gets that wait: one is let go, one times out; and gets whose check fails: one is let go then,
-/// and one waits and is served.
+/// Gets that wait: one is cancelled, one times out. And gets whose check fails: one is cancelled
+/// then, and one waits and is served.
 fn waiting<R: Runtime + Abort, L: PoolParts>(
     tools: &Tools<'_, R>,
     pool: &TellerPool<R, L>,
@@ -437,8 +435,8 @@ fn waiting<R: Runtime + Abort, L: PoolParts>(
     Ok(())
 }
 
-/// Gets with a handle of their own: one that is not polled, one that is served, and one that is let
-/// go while it is checked.
+/// Gets with their own handle: one that is not polled, one that is served, and one that is
+/// cancelled during its check.
 fn owned<R: Runtime + Abort, L: PoolParts>(
     tools: &Tools<'_, R>,
     pool: &TellerPool<R, L>,
@@ -463,8 +461,8 @@ fn owned<R: Runtime + Abort, L: PoolParts>(
     Ok(())
 }
 
-/// Connections that the pool does not count: opened and prepared slowly; failing as it is opened,
-/// or prepared; let go as it is prepared.
+/// Connections that the pool does not count: opened and prepared slowly; failing at the attempt or
+/// at the preparation; cancelled during the preparation.
 fn dedicated<R: Runtime + Abort, L: PoolParts>(tools: &Tools<'_, R>, pool: &TellerPool<R, L>) {
     let desk = tools.desk;
     let mut opening = pool.dedicated_connection();
@@ -509,8 +507,8 @@ fn dedicated<R: Runtime + Abort, L: PoolParts>(tools: &Tools<'_, R>, pool: &Tell
     desk.preparing.set(0);
 }
 
-/// Whatever connections are idle are closed as their checks fail, and a get waits and is let go:
-/// one approval is open.
+/// Closes all idle connections by failing checks, and has a get wait and be cancelled, so that one
+/// approval is open.
 fn approve<R: Runtime + Abort, L: PoolParts>(tools: &Tools<'_, R>, pool: &TellerPool<R, L>) {
     tools.desk.check.set(2);
     let mut get = pool.get();
@@ -522,8 +520,8 @@ fn approve<R: Runtime + Abort, L: PoolParts>(tools: &Tools<'_, R>, pool: &Teller
     tools.desk.made.set(0);
 }
 
-/// Turns, which read no clock: one connection is opened and prepared slowly, one opening fails, and
-/// one preparation; and a driver that is dropped with what it prepares.
+/// Turns, which read no clock: one connection is opened and prepared slowly, one attempt fails, and
+/// one preparation; and a driver is dropped during a preparation.
 fn turns<R: Runtime + Abort, L: PoolParts>(
     tools: &Tools<'_, R>,
     pool: &TellerPool<R, L>,
@@ -564,7 +562,7 @@ fn turns<R: Runtime + Abort, L: PoolParts>(
     tools.made("now ended dropped");
 }
 
-/// A handle more, and its drop.
+/// One more handle, and its drop.
 fn handles<R: Runtime + Abort, P: bb8_trials::OwnedHandle<Teller>>(tools: &Tools<'_, R>, pool: &P) {
     let copy = pool.try_clone();
     tools.made("now");
@@ -574,7 +572,7 @@ fn handles<R: Runtime + Abort, P: bb8_trials::OwnedHandle<Teller>>(tools: &Tools
     tools.made("now");
 }
 
-/// Asks the pool for its state while a call outside waits.
+/// Asks the pool for its state while a callback waits.
 #[derive(Drop)]
 struct Asker<R: Runtime + Abort, L: PoolParts> {
     pool: TellerPool<R, L>,
@@ -582,7 +580,7 @@ struct Asker<R: Runtime + Abort, L: PoolParts> {
 }
 
 impl<R: Runtime + Abort, L: PoolParts> Job for Asker<R, L> {
-    /// How often it was answered.
+    /// How often it got the state.
     type Told = u64;
 
     fn run(self, _thread: usize) -> u64 {
@@ -603,7 +601,7 @@ impl<R: Runtime + Abort, L: PoolParts> Job for Asker<R, L> {
     }
 }
 
-/// All calls of a pool that checks its connections, and of its driver.
+/// All calls of a pool with the check on, and of its driver.
 fn calls_with_checks<R: Runtime + Abort, L: PoolParts>(
     tools: &Tools<'_, R>,
     pool: &TellerPool<R, L>,
@@ -628,8 +626,7 @@ fn calls_with_checks<R: Runtime + Abort, L: PoolParts>(
     Ok(())
 }
 
-/// The calls of a pool, each of which waits, where that is asked for, until another thread was
-/// answered.
+/// The calls of a pool. If asked for, each callback waits until another thread was served.
 fn calls_of_a_pool<R: Runtime + Abort + Threads, L: PoolParts + 'static>(
     rt: R,
     blank: Blank,
@@ -687,8 +684,8 @@ fn calls_of_a_pool<R: Runtime + Abort + Threads, L: PoolParts + 'static>(
     Ok(())
 }
 
-/// The polls of a building, which opens two connections: it comes to its end, is let go, or fails.
-/// Then its pool is left, whose gets are not checked.
+/// The polls of a build, which opens two connections: it resolves, is cancelled, or fails. Then its
+/// pool is used, whose gets are not checked.
 fn calls_of_a_building<R: Runtime + Abort, B: Unbuilt<Teller>>(
     tools: &Tools<'_, R>,
     building: B,
@@ -728,7 +725,7 @@ fn calls_of_a_building<R: Runtime + Abort, B: Unbuilt<Teller>>(
     }
 }
 
-/// A building whose parts are named.
+/// Runs a build with these permits.
 fn builds<R: Runtime + Abort, L: PoolParts>(rt: R, blank: Blank, course: Course) -> Result<(), Fail>
     requires { IsBlankOf blank (record default_settings {
       max_size = 2;

@@ -6,7 +6,7 @@ use std::test::Fail;
 use std::thread;
 use std::time::Duration;
 
-/// It tells what it was set to last, also where that is less, and by a copy.
+/// It returns what it was last set to, also if that is less, and through a clone.
 #[test]
 fn set_clock_tells_what_it_was_set_to(rt: HostRuntime) -> Result<(), Fail> {
     let clock = SetClock::new(rt.alloc(), Moment(0))?;
@@ -18,7 +18,7 @@ fn set_clock_tells_what_it_was_set_to(rt: HostRuntime) -> Result<(), Fail> {
     Ok(())
 }
 
-/// Between two readings about a sleep of 20 ms as many nanoseconds pass, or more.
+/// Between two readings around a sleep of 20 ms at least that many nanoseconds pass.
 #[test]
 fn machine_clock_counts_nanoseconds(rt: HostRuntime) -> Result<(), Fail> {
     let clock = MachineClock(rt);

@@ -8,8 +8,8 @@ use futures::test::MockTask;
 use std::process::Abort;
 use std::test::Fail;
 
-/// Three guards go into a list. The first is taken out and closes the row, one is changed in its
-/// place, and the drop of the list gives back what is left.
+/// Three guards go into a list. The first is taken out, and the others move up. One is changed in
+/// its place, and the drop of the list returns the rest.
 pub(super) fn gathers<R: Runtime + Abort, L: PoolParts>(
     rt: R,
     numbers: NumberTrial<R, L>,
@@ -53,9 +53,9 @@ fn succeeds_to_gather_three_guards(rt: HostRuntime) -> Result<(), Fail> {
     try_numbers(rt, 3, Trial::ListOfGuards)
 }
 
-/// Three connections that are ten seconds apart, 7 the oldest, are out when that one lives too long
-/// by a second. What is taken out of the middle of their list comes back as 8, and is kept; of the
-/// rest, which the list gives back, just 7 is closed.
+/// Three connections, ten seconds apart and 7 the oldest, are checked out when 7 exceeds its
+/// lifetime by a second. The guard from the middle of their list returns 8, which is kept. Of the
+/// rest, which the list returns, only 7 is closed.
 pub(super) fn keeps_the_young<R: Runtime + Abort, L: PoolParts>(
     rt: R,
     numbers: NumberTrial<R, L>,
@@ -82,7 +82,7 @@ pub(super) fn keeps_the_young<R: Runtime + Abort, L: PoolParts>(
     Ok(())
 }
 
-/// The connections that two gets are served with.
+/// Returns the connections of two gets.
 fn lent<R: Runtime, L: PoolParts>(pool: &SlowPool<R, L>, task: &MockTask) -> Option<(u64, u64)> {
     let first = LentHandle::lend(pool, task)?;
     let second = LentHandle::lend(pool, task)?;

@@ -1,4 +1,4 @@
-//! What a guard shows, and where it may go.
+//! How guards print, and which threads they may go to.
 
 use super::{NumberTrial, Trial, assert_equal, try_numbers};
 use bb8::{Gets, PoolCalls, PoolParts, Runtime};
@@ -6,11 +6,11 @@ use futures::task::Poll;
 use std::process::Abort;
 use std::test::Fail;
 
-/// It may go to another thread.
+/// Checks that the type may go to another thread.
 fn is_sent<T: Send>(_: &T) {}
 
-/// A pool is printed without its parts, a guard as its connection, and an owned one is read and
-/// written as it; it may go to another thread, as its get may.
+/// A pool prints without its parts, a guard as its connection. An owned guard reads and writes its
+/// connection, and may go to another thread, as its get may.
 pub(super) fn derefs<R: Runtime + Abort, L: PoolParts>(
     rt: R,
     numbers: NumberTrial<R, L>,

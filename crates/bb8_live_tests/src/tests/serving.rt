@@ -1,4 +1,4 @@
-//! A service over a pool: what is called, how often, and under which number.
+//! A service over a pool: which of its calls are made, how often, and with which number.
 ghost use Rattle.std.specs.Prelude.{◌≡◌, Ok, IfOk, length};
 
 use super::{SlowManager, SlowPool, assert_equal};
@@ -13,11 +13,11 @@ use std::test::Fail;
 use std::thread::Threads;
 use std::time::Clock;
 
-/// Counts its calls.
+/// A service that counts its calls.
 #[derive(Drop)]
 struct CallCounter<R> {
     rt: R,
-    /// The connection that it adds as it begins.
+    /// The connection that it adds when it begins.
     connection: u64,
     begun: AtomicU64,
     run: AtomicU64,
@@ -35,7 +35,7 @@ impl<R: Runtime + Abort> CallCounter<R> {
         }
     }
 
-    /// How often it began, ran and ended.
+    /// Returns how often it began, ran and ended.
     fn calls(&self) -> (u64, u64, u64) {
         (
             self.begun.load(Ordering::SeqCst),
@@ -47,10 +47,10 @@ impl<R: Runtime + Abort> CallCounter<R> {
 
 impl<R: Runtime + Abort> Service<SlowManager, NopErrorSink, NopCustomizer, SetClock, R>
     for CallCounter<R> {
-    /// The thread's number, where its get was served.
+    /// The thread's number, if its get was served.
     type Told = Option<usize>;
 
-    /// Whether the threads of all numbers told, in order; none where the connection was not added.
+    /// Whether all threads returned their numbers, in order; None if the connection was not added.
     type Outcome = Option<bool>;
 
     fn begin<L: PoolParts>(&self, pool: &SlowPool<R, L>) -> Result<(), Option<bool>> {
@@ -61,7 +61,7 @@ impl<R: Runtime + Abort> Service<SlowManager, NopErrorSink, NopCustomizer, SetCl
         }
     }
 
-    /// By a handle of the thread's own.
+    /// Uses the thread's own handle.
     fn run<L: PoolParts>(&self, pool: &SlowPool<R, L>, thread: usize) -> Option<usize> {
         self.run.fetch_add(1, Ordering::SeqCst);
         let handle = pool.try_clone().ok()?;
@@ -82,7 +82,7 @@ impl<R: Runtime + Abort> Service<SlowManager, NopErrorSink, NopCustomizer, SetCl
     }
 }
 
-/// Four threads over a pool of one connection, which is added, so that the pool's driver opens
+/// Runs four threads over a pool of one connection, which is added, so that the pool's driver opens
 /// none.
 fn serve_four<R: Runtime + Abort + Threads + Clock>(
     rt: R,
@@ -112,7 +112,7 @@ fn no_thread_runs_where_the_service_does_not_begin(rt: HostRuntime) -> Result<()
     Ok(())
 }
 
-/// Tells how many threads ran.
+/// A service that returns how many threads ran.
 #[derive(Clone, Copy)]
 struct HowMany;
 
@@ -139,7 +139,7 @@ impl<R: Runtime + Abort> Service<SlowManager, NopErrorSink, NopCustomizer, SetCl
     }
 }
 
-/// How many threads ran: the service's own relations tell it to a caller of `serve`.
+/// Returns how many threads ran: the service's own relations prove it to the caller of `serve`.
 fn how_many<R: Runtime + Abort + Threads + Clock>(rt: R, threads: usize) -> Result<usize, Memory>
     ensures { IfOk result (λ ran. ran ≡ threads) }
 {
@@ -158,7 +158,7 @@ fn as_many_threads_run_as_are_asked_for(rt: HostRuntime) -> Result<(), Fail> {
     Ok(())
 }
 
-/// Tells the number of its thread.
+/// A job that returns the number of its thread.
 #[derive(Drop)]
 struct OwnNumber;
 

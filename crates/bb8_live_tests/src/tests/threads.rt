@@ -1,4 +1,4 @@
-//! Two threads that get and return through one pool.
+//! Two threads that check out and return connections of one pool.
 ghost use Rattle.std.specs.Prelude.{◌<◌};
 ghost use Rattle.bb8.specs.Parts.{IsBlankOf};
 ghost use Rattle.bb8.specs.Settings.{default_settings};
@@ -16,9 +16,9 @@ use std::sync::ledger::Blank;
 use std::test::Fail;
 use std::thread::{self, Threads, join};
 
-/// What a thread of a test does.
+/// The job of a test's thread.
 trait TestJob {
-    /// Does it, and tells whether all went as it should.
+    /// Runs, and returns whether all went as it should.
     fn run(&self) -> bool;
 }
 
@@ -27,8 +27,8 @@ fn twice(rt: &impl Threads, job: &(impl TestJob + Sync)) -> (bool, bool) {
     join(rt, || job.run(), || job.run())
 }
 
-/// Whether who just got a connection is its one holder, who then lets it go: a held one is broken,
-/// whoever asks.
+/// Whether the caller is the only holder of a connection that it just got. It marks the connection
+/// as broken for a moment, so that another holder would see it.
 fn is_alone(connection: &mut ServerConnection) -> bool {
     if connection.is_broken {
         return false;
@@ -39,8 +39,8 @@ fn is_alone(connection: &mut ServerConnection) -> bool {
     true
 }
 
-/// A thousand gets, each of which is given back before the next. With handles of their own, each is
-/// a get of another handle, which is made for it and dropped before the guard.
+/// A thousand gets, each returned before the next. With `owned`, each is a get of another handle,
+/// which is made for it and dropped before the guard.
 #[derive(Drop)]
 struct Repeating<'a, R: Runtime + Abort, L: PoolParts> {
     pool: &'a ServerPool<SetClock, R, L>,
@@ -75,8 +75,8 @@ impl<R: Runtime + Abort, L: PoolParts> TestJob for Repeating<'_, R, L> {
     }
 }
 
-/// A thousand rounds, in each of which the clock moves, a connection is added where there is room,
-/// the state is read, a get is let go after a poll, and one is served, whose connection nobody else
+/// A thousand rounds. In each the clock moves, a connection is added if there is capacity, the
+/// state is read, a get is cancelled after a poll, and one is served, whose connection nobody else
 /// may hold.
 #[derive(Drop)]
 struct Mixed<'a, R: Runtime + Abort, L: PoolParts> {
@@ -114,7 +114,7 @@ impl<R: Runtime + Abort, L: PoolParts> TestJob for Mixed<'_, R, L> {
     }
 }
 
-/// Two threads share a pool of up to three connections in all that it does.
+/// Two threads share a pool of up to three connections, and use all its calls.
 fn shares_all<R: Runtime + Abort + Threads, L: PoolParts>(
     rt: R,
     pool: &ServerPool<SetClock, R, L>,
@@ -131,8 +131,7 @@ fn shares_all<R: Runtime + Abort + Threads, L: PoolParts>(
     assert_equal(&rt, pool.state().statistics.get_started, 4000);
 }
 
-/// Two threads share a pool of so many connections in gets alone, with handles of their own or
-/// without.
+/// Two threads share a pool of this size, and only make gets, with or without their own handles.
 fn shares_gets<R: Runtime + Abort + Threads, L: PoolParts>(
     rt: R,
     pool: &ServerPool<SetClock, R, L>,
@@ -153,17 +152,17 @@ fn shares_gets<R: Runtime + Abort + Threads, L: PoolParts>(
     Ok(())
 }
 
-/// What two threads do with a pool that they share.
+/// What two threads do with their shared pool.
 #[derive(Clone, Copy)]
 enum SharedBy {
-    /// All that there is to do.
+    /// All calls.
     All,
-    /// Gets, with handles of their own or without.
+    /// Gets, with or without their own handles.
     Gets { owned: bool },
 }
 
-/// Two threads share a pool. Each connection is checked before it is lent, or none. At the end all
-/// are idle, and none was closed.
+/// Two threads share a pool with the check on or off. At the end all connections are idle, and none
+/// was closed.
 fn shares<R: Runtime + Abort + Threads, L: PoolParts>(
     rt: R,
     blank: Blank,
@@ -194,7 +193,7 @@ fn shares<R: Runtime + Abort + Threads, L: PoolParts>(
     Ok(())
 }
 
-/// The same, with parts of its own.
+/// Runs `shares` with its own permits.
 fn share<R: Runtime + Abort + Threads>(
     rt: R,
     max_size: u32,

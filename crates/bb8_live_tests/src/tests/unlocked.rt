@@ -1,4 +1,4 @@
-//! What takes no lock: made while another thread holds the pool's lock.
+//! Calls that acquire no lock, made while another thread holds the pool's lock.
 ghost use Rattle.bb8.specs.Parts.{IsBlankOf, unchecked_of};
 ghost use Rattle.bb8.specs.Settings.{default_settings};
 
@@ -18,14 +18,14 @@ use std::sync::ledger::Blank;
 use std::test::Fail;
 use std::thread::Threads;
 
-/// Makes a turn in which a connection is reaped that was idle for 700 seconds.
+/// Makes a turn that reaps a connection which was idle for 700 seconds.
 #[derive(Drop)]
 struct Turner<R: Runtime + Abort, L: PoolParts> {
     driver: Driver<Teller, Teller, Teller, Teller, R, L>,
 }
 
 impl<R: Runtime + Abort, L: PoolParts> Job for Turner<R, L> {
-    /// How many openings it polled.
+    /// How many attempts it polled.
     type Told = u64;
 
     fn run(self, _thread: usize) -> u64 {
@@ -34,7 +34,7 @@ impl<R: Runtime + Abort, L: PoolParts> Job for Turner<R, L> {
     }
 }
 
-/// A building that is not polled.
+/// Makes a build that is not polled.
 fn plans<R: Runtime, L: PoolParts>(rt: R, blank: Blank) -> Result<(), Memory>
     requires { IsBlankOf blank default_settings L.name L.parts L.settings }
 {
@@ -51,7 +51,7 @@ fn plans<R: Runtime, L: PoolParts>(rt: R, blank: Blank) -> Result<(), Memory>
     Ok(())
 }
 
-/// All calls that take no lock, of a pool of two connections, one of which is in the list.
+/// Makes all calls that acquire no lock, of a pool of two connections, one of which is in the list.
 fn calls<R: Runtime + Abort, L: PoolParts>(
     rt: R,
     task: &MockTask,
@@ -74,8 +74,8 @@ fn calls<R: Runtime + Abort, L: PoolParts>(
     Ok(())
 }
 
-/// A thread reaps, and the drop of what it closes waits, under the lock, until all calls were made
-/// that take no lock.
+/// A thread reaps, and the drop of what it closes waits under the lock until all calls were made
+/// that acquire no lock.
 fn waits_for_nobody<R: Runtime + Abort + Threads, L: PoolParts + 'static>(
     rt: R,
     blank: Blank,

@@ -1,4 +1,4 @@
-//! A pool that is closed while connections are out.
+//! A pool that is closed while connections are checked out.
 
 use super::assert_equal;
 use bb8::{
@@ -13,8 +13,8 @@ use std::process::Abort;
 use std::sync::Arc;
 use std::test::Fail;
 
-/// Closes a pool of three connections. One is idle for a get that waits, one has a guard, and one a
-/// guard with a handle of its own.
+/// Closes a pool of three connections. One is idle, with a get that waits for it; one has a guard,
+/// and one a guard with its own handle.
 #[derive(Drop)]
 struct Closing<R> {
     rt: R,
@@ -22,7 +22,7 @@ struct Closing<R> {
 }
 
 impl<R: Runtime + Abort> User<Server, Errors, NopCustomizer, MachineClock<R>, R> for Closing<R> {
-    /// None if a call returned something else than it should.
+    /// None if a call returned another result than it should.
     type Outcome = Option<()>;
 
     fn run<L: PoolParts>(
@@ -75,8 +75,8 @@ impl<R: Runtime + Abort> User<Server, Errors, NopCustomizer, MachineClock<R>, R>
     }
 }
 
-/// The get that waits times out, what is idle is closed at once, and what is out is closed when it
-/// comes back, each once.
+/// The waiting get times out, idle connections are closed at once, and checked-out ones when they
+/// are returned. Each is dropped once.
 #[test]
 fn close_drops_each_connection_once(rt: HostRuntime) -> Result<(), Fail> {
     let board = Board::new(rt.alloc())?;

@@ -16,7 +16,7 @@ use std::sync::ledger::Blank;
 use std::test::Fail;
 use std::thread::Threads;
 
-/// It may be sent to other threads and be shared with them.
+/// Checks that the type may be sent to other threads and shared with them.
 fn is_shared<T: Send + Sync>() {}
 
 #[test]
@@ -24,8 +24,8 @@ fn is_send_sync(_rt: HostRuntime) {
     is_shared::<ServerPool<SetClock, HostRuntime, Brand>>();
 }
 
-/// A run in a thread of its own, whose gate does not pause: one turn, which opens both first
-/// connections, or ends as the pool was dropped. The pool's own runtime has no threads.
+/// Runs a driver in a thread of its own, whose gate does not pause: one turn, which opens both
+/// first connections, or ends because the pool was dropped. The pool's own runtime has no threads.
 fn drives<R: Runtime + Abort, L: PoolParts + 'static>(
     rt: R,
     threads: &impl Threads,
@@ -58,12 +58,12 @@ fn drives<R: Runtime + Abort, L: PoolParts + 'static>(
     Ok(driven)
 }
 
-/// The same, with parts of its own.
+/// Runs `drives` with its own permits.
 fn drive_five<R: Runtime + Abort + Threads>(rt: R, drops: bool) -> Result<Driven, Fail> {
     drives::<R, Brand>(rt, &rt, Blank::new(5), drops)
 }
 
-/// What came of a run of one turn, and whether the pool had ended.
+/// Returns the result of a run of one turn.
 fn after_a_turn(ended: bool) -> Driven {
     Driven { turns: 1, ended }
 }
@@ -80,9 +80,9 @@ fn driven_until_its_pool_ends(rt: HostRuntime) -> Result<(), Fail> {
     Ok(())
 }
 
-/// A driver's thread hangs in the poll of an opening. Meanwhile `state` is answered in the test's
-/// own thread, and another driver opens the connection that a second get asks for, which serves the
-/// first one.
+/// A driver's thread hangs in the poll of an attempt. Meanwhile `state` returns in the test's own
+/// thread, and another driver opens the connection that a second get requests, which serves the
+/// first get.
 fn answers_meanwhile<R: Runtime + Abort + Threads, L: PoolParts + 'static>(
     rt: R,
     blank: Blank,

@@ -1,5 +1,5 @@
-//! A server that fails for a while: who waits then is asked for again, and who just had a
-//! connection gets it unchecked.
+//! A server that fails for a while: approvals for waiters are asked for again, and a connection
+//! that was just used is handed out unchecked.
 
 use super::assert_equal;
 use bb8::{
@@ -15,7 +15,7 @@ use std::sync::Arc;
 use std::test::Fail;
 use std::time::Duration;
 
-/// A pool's clock and server, as a test sets them.
+/// The clock and the server of a pool, set by a test.
 #[derive(Drop)]
 struct Outage<R> {
     rt: R,
@@ -23,12 +23,12 @@ struct Outage<R> {
     board: Arc<Board, Global>,
 }
 
-/// Waits from 10 seconds on while the one connection attempt fails, and lets the driver make turns.
+/// Waits from 10 seconds on while the only attempt fails, and has the driver make turns.
 #[derive(Drop)]
 struct Waits<R>(Outage<R>);
 
 impl<R: Runtime> User<Server, Errors, NopCustomizer, SetClock, R> for Waits<R> {
-    /// How many attempts were begun after each turn, and whether the get is served at last.
+    /// How many attempts were begun after each turn, and whether the get is served in the end.
     type Outcome = Option<([u64; 4], bool)>;
 
     fn run<L: PoolParts>(
@@ -57,8 +57,8 @@ impl<R: Runtime> User<Server, Errors, NopCustomizer, SetClock, R> for Waits<R> {
     }
 }
 
-/// The attempt fails and is not made again, also not by the turns that follow: nobody else asks, as
-/// the get waits on. The reaper's tick at 30 seconds does.
+/// The attempt fails and is not repeated, also not in the turns that follow: nobody else asks, as
+/// the get goes on waiting. The reaper's tick at 30 seconds does.
 #[test]
 fn waiting_get_is_asked_for_at_the_next_tick(rt: HostRuntime) -> Result<(), Fail> {
     let board = Board::new(rt.alloc())?;
@@ -75,12 +75,12 @@ fn waiting_get_is_asked_for_at_the_next_tick(rt: HostRuntime) -> Result<(), Fail
     Ok(())
 }
 
-/// Takes the one connection at 9, at 18 and at 28 seconds, while each check fails.
+/// Takes the only connection at 9, 18 and 28 seconds, while each check fails.
 #[derive(Drop)]
 struct Takes<R>(Outage<R>);
 
 impl<R: Runtime> User<Server, Errors, NopCustomizer, SetClock, R> for Takes<R> {
-    /// How many checks of it were begun each time, and none where it was not handed out.
+    /// How many of its checks were begun by then; None if it was not handed out.
     type Outcome = Option<[Option<u64>; 3]>;
 
     fn run<L: PoolParts>(
@@ -107,7 +107,7 @@ impl<R: Runtime> User<Server, Errors, NopCustomizer, SetClock, R> for Takes<R> {
     }
 }
 
-/// It was idle for 9 seconds twice, which is less than 10, and then for 10.
+/// The connection was idle for 9 seconds twice, which is less than 10, and then for 10.
 #[test]
 fn connection_is_checked_after_so_much_idle_time(rt: HostRuntime) -> Result<(), Fail> {
     let board = Board::new(rt.alloc())?;

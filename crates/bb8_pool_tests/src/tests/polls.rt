@@ -1,5 +1,5 @@
-//! Many polls of all that a pool lends, and turns of its driver, at random, with parts that change
-//! their answers at every call.
+//! Many random polls of all that a pool hands out, and turns of its driver, with user callbacks
+//! whose results change at every call.
 ghost use Rattle.std.specs.Prelude.{Some};
 ghost use Rattle.bb8.specs.Parts.{IsBlankOf};
 ghost use Rattle.bb8.specs.Settings.{default_settings};
@@ -21,20 +21,20 @@ use std::sync::ledger::Blank;
 use std::test::Fail;
 use std::time::Duration;
 
-/// How many pools are tried, each with answers of its own.
+/// The number of pools, each with its own results.
 const POOLS: u64 = 200;
 
-/// How many steps each pool makes.
+/// The number of steps of each pool.
 const STEPS: u64 = 150;
 
 /// The `max_size` of each pool.
 const MAX_SIZE: u32 = 6;
 
-/// How many gets are alive at a time.
+/// The greatest number of gets at a time.
 const MOST_GETS: usize = 6;
 
-/// The row of the seed 1234567 begins with these numbers, as others' programs by the same rule
-/// print it.
+/// The sequence of the seed 1234567 begins with these numbers, which other programs by the same
+/// rule print.
 #[test]
 fn numbers_of_a_seed(rt: HostRuntime) -> Result<(), Fail> {
     let source = RandomSource::new(rt.alloc(), 1_234_567)?;
@@ -50,26 +50,26 @@ fn numbers_of_a_seed(rt: HostRuntime) -> Result<(), Fail> {
     Ok(())
 }
 
-/// A get, with a handle of its own or without, and whether it was polled.
+/// A get, with or without its own handle, and whether it was polled.
 #[derive(Drop)]
 struct Going<G: Drop> {
     get: G,
     polled: bool,
 }
 
-/// What a test was told.
+/// The results of a test.
 #[derive(Clone, Copy)]
 struct Tally {
     gets: GetCounts,
     polls: u64,
-    /// How many openings the turns of the driver polled.
+    /// How many attempts the driver's turns polled.
     driven: u64,
     /// How many connections were reaped.
     reaped: u64,
 }
 
 impl Tally {
-    /// Nothing yet.
+    /// Returns empty results.
     fn new() -> Tally {
         Tally {
             gets: GetCounts::new(),
@@ -79,7 +79,7 @@ impl Tally {
         }
     }
 
-    /// Notes what a get was answered: what it was served with, which nobody else may hold.
+    /// Counts the result of a get. A connection that served it may be held by nobody else.
     fn note<G: DerefMut<Target = Counted> + Drop, O: DerefMut<Target = Counted> + Drop>(
         &mut self,
         harness: &Harness,
@@ -123,14 +123,14 @@ struct Field<'h, P: LentHandle<HostileManager> + Drop, R: Runtime, L: PoolParts>
     told: Tally,
 }
 
-/// One of these, which the source picks.
+/// Removes and returns one of these, chosen by the source.
 fn take_one<T>(all: &mut Vec<T>, source: &RandomSource) -> Option<T> {
     let index = source.index(all.len())?;
     Some(all.swap_remove(index))
 }
 
 impl<P: LentHandle<HostileManager> + Drop, R: Runtime, L: PoolParts> Field<'_, P, R, L> {
-    /// Begins a get, where there are not many yet.
+    /// Begins a get, unless there are many already.
     fn begin(&mut self) {
         if self.gets.len() >= MOST_GETS {
             return;
@@ -166,8 +166,8 @@ impl<P: LentHandle<HostileManager> + Drop, R: Runtime, L: PoolParts> Field<'_, P
         }
     }
 
-    /// Polls the opening of a connection that the pool does not count, or begins one; one that was
-    /// opened is added to the pool.
+    /// Begins or polls an attempt to open a connection that the pool does not count; adds the
+    /// opened one to the pool.
     fn open(&mut self, task: &MockTask) {
         let Some(mut opening) = take_one(&mut self.openings, &self.harness.source) else {
             let _ = self.openings.push(self.pool.dedicated_connection());
@@ -185,7 +185,7 @@ impl<P: LentHandle<HostileManager> + Drop, R: Runtime, L: PoolParts> Field<'_, P
         }
     }
 
-    /// Drops a get, or cancels it.
+    /// Drops or cancels a get.
     fn let_get_go(&mut self, cancels: bool) {
         let Some(Going { get, polled }) = take_one(&mut self.gets, &self.harness.source) else {
             return;
@@ -198,7 +198,7 @@ impl<P: LentHandle<HostileManager> + Drop, R: Runtime, L: PoolParts> Field<'_, P
         }
     }
 
-    /// Lets a get go, or the opening of a connection.
+    /// Cancels a get, or an attempt.
     fn let_go(&mut self) {
         match self.harness.source.below(6) {
             0..=1 => self.let_get_go(false),
@@ -218,7 +218,7 @@ impl<P: LentHandle<HostileManager> + Drop, R: Runtime, L: PoolParts> Field<'_, P
         self.told.driven = self.told.driven.saturating_add(turn.polled);
     }
 
-    /// One step, which the source picks.
+    /// Makes one step, chosen by the source.
     fn step(&mut self, task: &MockTask) {
         match self.harness.source.below(18) {
             0..=3 => self.begin(),
@@ -252,7 +252,7 @@ impl<P: LentHandle<HostileManager> + Drop, R: Runtime, L: PoolParts> Field<'_, P
     }
 }
 
-/// Adds connections until one finds no room. Whether `MAX_SIZE` went in.
+/// Adds connections until one finds no capacity. Returns whether `MAX_SIZE` were added.
 fn fills<P: LentHandle<HostileManager>>(pool: P, harness: &Harness) -> bool {
     let mut added: u32 = 0;
     for _ in 0..100u32 {
@@ -266,8 +266,8 @@ fn fills<P: LentHandle<HostileManager>>(pool: P, harness: &Harness) -> bool {
     false
 }
 
-/// A pool is filled, and makes its steps. After each, it, the test and the connections count the
-/// same. Then all is let go.
+/// Fills a pool, and makes its steps. After each one the pool, the test and the connections count
+/// the same. Then everything is dropped.
 fn plays<P: LentHandle<HostileManager> + Drop, R: Runtime + Abort, L: PoolParts>(
     rt: &R,
     task: &MockTask,
@@ -298,7 +298,7 @@ fn plays<P: LentHandle<HostileManager> + Drop, R: Runtime + Abort, L: PoolParts>
     Ok(told)
 }
 
-/// A pool makes its steps, with a driver of its own.
+/// Makes the steps of a pool with its own driver.
 fn plays_driven<R: Runtime + Abort, L: PoolParts>(
     rt: &R,
     pool: &HostilePool<R, L>,
@@ -309,7 +309,7 @@ fn plays_driven<R: Runtime + Abort, L: PoolParts>(
     plays(rt, &task, pool, driver, harness)
 }
 
-/// A pool of this seed makes its steps, and is dropped: then nothing is left.
+/// Makes the steps of a pool with this seed, and drops it: then nothing is left.
 fn polls_at_random<R: Runtime + Abort, L: PoolParts>(
     rt: R,
     blank: Blank,

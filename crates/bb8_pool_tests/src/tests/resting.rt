@@ -1,4 +1,4 @@
-//! A driver that sleeps while it has nothing to do, and what it has to do next.
+//! A driver that sleeps while it has nothing to do, and when it is next due.
 
 use super::assert_equal;
 use super::waiting::nanos;
@@ -20,12 +20,12 @@ use std::time::{Clock, CpuClock, Duration};
 /// One millisecond in nanoseconds.
 const MILLI: u64 = 1_000_000;
 
-/// What a clock has counted.
+/// The counts of a clock.
 #[derive(Drop)]
 struct Meter {
     /// How often it was read.
     readings: Number,
-    /// The processor time that the thread which read it last had used then, in nanoseconds.
+    /// The processor time of the thread that read it last, in nanoseconds.
     used: Number,
     /// When the service ended, by the machine's clock.
     ended: Number,
@@ -46,21 +46,21 @@ impl<R: Runtime + CpuClock> PoolClock for MeteredClock<R> {
     }
 }
 
-/// One thread gets a connection that is to be opened, and then lets the pool alone for a while.
+/// One thread gets a connection that must be opened, and then leaves the pool alone for a while.
 #[derive(Drop)]
 struct Resting<R> {
     rt: R,
     meter: Arc<Meter, Global>,
     board: Arc<Board, Global>,
     rest: Duration,
-    /// Whether another connection is idle, whose check fails.
+    /// Whether another connection is idle, with a check that fails.
     check_fails: bool,
 }
 
-/// What such a thread saw.
+/// The measurements of such a thread.
 #[derive(Clone, Copy)]
 struct Rested {
-    /// How many nanoseconds after it began the get was served.
+    /// How many nanoseconds the get took.
     served: u64,
     /// How many turns the driver made meanwhile.
     turns: u64,
@@ -68,12 +68,13 @@ struct Rested {
     used: u64,
 }
 
-/// Waits for a driver, as methods of an impl, so that those of a service can call them.
+/// Waits for a driver. (A trait because of *trait-for-threads*.)
 trait AwaitsTurn<R: Runtime + CpuClock> {
     /// Waits until the driver has begun a turn.
     fn turned(&self);
 
-    /// Gets the connection that is to be opened, and lets it go.
+    /// Gets the connection that must be opened, and cancels that get. If none was idle, it goes to
+    /// another get that is cancelled, so gets are signalled more often than drivers.
     fn opens<L: PoolParts>(&self, pool: &ServerPool<MeteredClock<R>, R, L>) -> Option<()>;
 }
 
@@ -90,7 +91,10 @@ impl<R: Runtime + CpuClock> AwaitsTurn<R> for Resting<R> {
 
     fn opens<L: PoolParts>(&self, pool: &ServerPool<MeteredClock<R>, R, L>) -> Option<()> {
         if !self.check_fails {
-            drop(pool.get_blocking().ok()?);
+            let guard = pool.get_blocking().ok()?;
+            let mut next = pool.get();
+            drop(MockTask::new(&self.rt).ok()?.poll(&mut next));
+            drop(guard);
             return Some(());
         }
         let mut get = pool.get();
@@ -104,7 +108,7 @@ impl<R: Runtime + CpuClock> AwaitsTurn<R> for Resting<R> {
 
 impl<R: Runtime + CpuClock> Service<Server, Errors, NopCustomizer, MeteredClock<R>, R>
     for Resting<R> {
-    /// None where the get was not served.
+    /// None if the get was not served.
     type Told = Option<Rested>;
 
     type Outcome = Option<Rested>;
@@ -146,8 +150,8 @@ impl<R: Runtime + CpuClock> Service<Server, Errors, NopCustomizer, MeteredClock<
     }
 }
 
-/// What the thread saw that rests so long, and how many nanoseconds after the service had ended
-/// `serve` answered.
+/// Returns the measurements of a thread that rests this long, and how many nanoseconds after the
+/// end of the service `serve` returned.
 fn serve_resting<R: Runtime + CpuClock + Threads>(
     rt: R,
     rest: Duration,
@@ -184,8 +188,8 @@ fn serve_resting<R: Runtime + CpuClock + Threads>(
     }
 }
 
-/// A second with nothing to do takes the driver of a service less than 60 turns, and 10
-/// milliseconds of a processor.
+/// In a second with nothing to do a service's driver makes fewer than 60 turns, and uses less than
+/// 10 milliseconds of a processor.
 #[test]
 fn idle_driver_sleeps(rt: HostRuntime) -> Result<(), Fail> {
     let (Rested { turns, used, .. }, _) = serve_resting(rt, Duration::from_secs(1), false)?;
@@ -194,9 +198,9 @@ fn idle_driver_sleeps(rt: HostRuntime) -> Result<(), Fail> {
     Ok(())
 }
 
-/// A driver that only made turns by itself would come some 50 milliseconds after the one before,
-/// which all have just seen: the get that is granted an approval, the failed check that is, and the
-/// end of the pool. Of five the quickest is looked at.
+/// A driver that nothing woke would make its next turn some 50 milliseconds after the previous one,
+/// which each case has just seen: the get with a granted approval, the failed check with one, and
+/// the end of the pool. The quickest of five counts.
 #[test]
 fn grant_and_end_wake_the_driver(rt: HostRuntime) -> Result<(), Fail> {
     for check_fails in [false, true] {
@@ -212,7 +216,7 @@ fn grant_and_end_wake_the_driver(rt: HostRuntime) -> Result<(), Fail> {
     Ok(())
 }
 
-/// Asks a driver what it has to do next.
+/// Asks a driver when it is next due.
 #[derive(Drop)]
 struct AsksDue<R> {
     rt: R,
@@ -221,7 +225,7 @@ struct AsksDue<R> {
 }
 
 impl<R: Runtime> User<Server, Errors, NopCustomizer, SetClock, R> for AsksDue<R> {
-    /// In milliseconds, before each turn and at last.
+    /// In milliseconds, before each turn and at the end.
     type Outcome = Option<[Option<u64>; 5]>;
 
     fn run<L: PoolParts>(
@@ -252,7 +256,7 @@ impl<R: Runtime> User<Server, Errors, NopCustomizer, SetClock, R> for AsksDue<R>
 }
 
 /// The first tick, half a minute after the pool was made; the second try, 400 milliseconds after
-/// the first one failed; at once, while it is pending; and the tick again.
+/// the first one failed; at once, while that is pending; and the tick again.
 #[test]
 fn next_due_is_the_earliest(rt: HostRuntime) -> Result<(), Fail> {
     let board = Board::new(rt.alloc())?;

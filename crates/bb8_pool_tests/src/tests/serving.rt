@@ -1,5 +1,5 @@
-//! A service over a pool whose first connection cannot be opened, or late; and one whose driver has
-//! to turn, and to end.
+//! A service over a pool whose first connection cannot be opened, or is opened late; and one whose
+//! driver must make turns, and end.
 ghost use Rattle.std.specs.Prelude.{◌≡◌, true};
 ghost use Rattle.bb8.specs.Settings.{is_lawful};
 
@@ -45,8 +45,8 @@ impl<R: Runtime> Service<Server, Errors, NopCustomizer, SetClock, R> for BeginCo
     }
 }
 
-/// The server's error is the answer and not the sink's, its opening is not tried again, and the
-/// service does not begin.
+/// The server's error is the result and does not go to the sink, its attempt is not repeated, and
+/// the service does not begin.
 #[test]
 fn first_connection_that_fails_ends_a_serve(rt: HostRuntime) -> Result<(), Fail> {
     let board = Board::new(rt.alloc())?;
@@ -66,7 +66,7 @@ fn first_connection_that_fails_ends_a_serve(rt: HostRuntime) -> Result<(), Fail>
     Ok(())
 }
 
-/// The machine's clock, each of whose readings lasts for 50 milliseconds once that is asked for.
+/// The machine's clock, each of whose readings takes 50 milliseconds once `lasts` is set.
 #[derive(Drop)]
 struct LastingClock<R> {
     rt: R,
@@ -82,14 +82,14 @@ impl<R: Runtime> PoolClock for LastingClock<R> {
     }
 }
 
-/// Has two connections at once. Each get asks for an opening, which a turn of the driver after that
-/// has to make.
+/// Checks out two connections at once. Each get requests an attempt, which a later turn of the
+/// driver has to make.
 #[derive(Drop)]
 struct TwoAtOnce<R> {
     rt: R,
-    /// Set as it ends, so that the clock's readings last from then on.
+    /// Set when it ends, so that the clock's readings take longer from then on.
     lasts: Arc<Number, Global>,
-    /// Whether it lets neither of the two go, each with a handle of its own.
+    /// Whether it keeps both, each with its own handle.
     keeps: bool,
 }
 
@@ -130,7 +130,7 @@ impl<R: Runtime> Service<Server, Errors, NopCustomizer, LastingClock<R>, R> for 
     }
 }
 
-/// What such a service answers on a pool of this builder.
+/// Returns the result of such a service on a pool of this builder.
 fn serve_two<R: Runtime + Threads>(
     rt: R,
     board: &Arc<Board, Global>,
@@ -154,8 +154,8 @@ fn serve_two<R: Runtime + Threads>(
 }
 
 /// The driver makes turns while the service runs, the next one in less than half a second, and its
-/// thread has let the pool go as the service's answer is there: nobody else then has what the
-/// server counts on. Its end lasts longer than the pool's, by two readings of the clock to one.
+/// thread has dropped the pool when the service returns: nobody else then holds the server's board.
+/// The driver takes longer to end than the pool, by two readings of the clock to one.
 #[test]
 fn driver_of_a_service_turns_on_and_ends(rt: HostRuntime) -> Result<(), Fail> {
     let board = Board::new(rt.alloc())?;
@@ -171,7 +171,7 @@ fn driver_of_a_service_turns_on_and_ends(rt: HostRuntime) -> Result<(), Fail> {
     Ok(())
 }
 
-/// Ends the test where no answer came within ten seconds.
+/// Ends the test if there is no result within ten seconds.
 #[derive(Drop)]
 struct Watch<R> {
     rt: R,
@@ -192,8 +192,8 @@ impl<R: Runtime + Abort> Job for Watch<R> {
     }
 }
 
-/// The answer comes also where handles are left over, with which the pool's driver would turn for
-/// ever.
+/// The service returns also if handles are left over, with which the pool's driver would run
+/// forever.
 #[test]
 fn driver_of_a_service_ends_beside_handles(rt: HostRuntime) -> Result<(), Fail> {
     let board = Board::new(rt.alloc())?;
@@ -212,7 +212,7 @@ fn driver_of_a_service_ends_beside_handles(rt: HostRuntime) -> Result<(), Fail> 
     Ok(())
 }
 
-/// What a start of a service of two connections at once answers, and the nanoseconds that it takes,
+/// The result of a service that checks out two connections at once, the nanoseconds that it took,
 /// and those of a processor.
 #[derive(Drop)]
 struct Started {
@@ -237,9 +237,10 @@ fn time_start<R: Runtime + CpuClock + Threads>(
     })
 }
 
-/// A server that is down is tried for a second and more, for which the thread that waits uses less
-/// than 50 milliseconds of a processor; and less than a third of it for one whose first opening
-/// lasts half a second, in some 500 polls. One that polled without a pause would use all of it.
+/// A server that is down is tried for more than a second, in which the waiting thread uses less
+/// than 50 milliseconds of a processor. If the first attempt takes half a second, in some 500
+/// polls, it uses less than a third of that. A thread that polled without a pause would use all of
+/// it.
 #[test]
 fn first_connections_are_awaited_asleep(rt: HostRuntime) -> Result<(), Fail> {
     let board = Board::new(rt.alloc())?;

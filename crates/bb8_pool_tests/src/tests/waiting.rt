@@ -15,7 +15,7 @@ use std::test::Fail;
 use std::thread::{self, Threads};
 use std::time::{Clock, CpuClock, Duration};
 
-/// The nanoseconds of the machine's clock now, or of a processor.
+/// Returns the nanoseconds of a reading of the machine's clock or of a processor's; 0 if it failed.
 pub(super) fn nanos(read: std::io::Result<Duration>) -> u64 {
     match read {
         Ok(passed) => u64::try_from(passed.as_nanos()).unwrap_or(u64::MAX),
@@ -23,14 +23,15 @@ pub(super) fn nanos(read: std::io::Result<Duration>) -> u64 {
     }
 }
 
-/// What reaches a thread that waits.
+/// The cause that wakes a waiting thread.
 #[derive(Clone, Copy)]
 enum Cause {
-    /// The connection comes back.
+    /// The connection is returned.
     Return,
-    /// Another one is added.
+    /// Another connection is added.
     Adding,
-    /// The connection comes back to a get that nobody polls, which is let go 20 milliseconds later.
+    /// The connection is returned for a get that nobody polls, which is cancelled 20 milliseconds
+    /// later.
     HandOn,
     /// The connection is detached, and another one can be opened.
     Detach,
@@ -41,20 +42,20 @@ enum Cause {
 /// Who waits, and for what.
 #[derive(Clone, Copy)]
 struct Trial {
-    /// How many threads there are. The first one holds the connection.
+    /// The number of threads. The first one holds the connection.
     threads: usize,
     /// For how many milliseconds it is held.
     hold: u64,
-    /// By how many milliseconds each thread begins to wait later than the one before it.
+    /// By how many milliseconds each thread begins to wait later than the previous one.
     apart: u64,
-    /// Whether the first one that is served holds it as long once more.
+    /// Whether the first served thread holds it again for the same time.
     holds_again: bool,
     cause: Cause,
-    /// Whether they wait by handles of their own.
+    /// Whether they wait with their own handles.
     owned: bool,
 }
 
-/// One thread that waits until the connection comes back.
+/// One thread that waits until the connection is returned.
 const ONE: Trial = Trial {
     threads: 2,
     hold: 70,
@@ -64,7 +65,7 @@ const ONE: Trial = Trial {
     owned: false,
 };
 
-/// Thread 0 holds the one connection for a while, and each other thread waits meanwhile.
+/// Thread 0 holds the only connection for a while, and the other threads wait meanwhile.
 #[derive(Drop)]
 struct Waiting<R> {
     rt: R,
@@ -72,49 +73,49 @@ struct Waiting<R> {
     trial: Trial,
     /// 1 once it is held.
     held: Number,
-    /// 1 once it was held again, or is not to be.
+    /// 1 once it was held again, or will not be.
     held_again: Number,
-    /// When what reaches the others came about, by the machine's clock.
+    /// When the cause occurred, by the machine's clock.
     caused: Number,
 }
 
-/// What a thread that waited tells, in nanoseconds.
+/// The result of a waiting thread, in nanoseconds.
 #[derive(Clone, Copy)]
 struct Waited {
     /// The processor time that it used while it waited.
     used: u64,
-    /// How long after the cause it was served; of several threads, the first and the last of them.
+    /// How long after the cause it was served; of several threads, the first and the last one.
     first: u64,
     last: u64,
 }
 
-/// What is told of no thread.
+/// The result of no thread.
 const NOBODY: Waited = Waited {
     used: 0,
     first: u64::MAX,
     last: 0,
 };
 
-/// What the threads do, as methods of an impl, so that those of a service can call them.
+/// What the threads do. (A trait because of *trait-for-threads*.)
 trait Waits<R: Runtime> {
-    /// Holds the connection, and brings the cause about.
+    /// Holds the connection, and then makes the cause occur.
     fn hold<L: PoolParts>(&self, pool: &ServerPool<MachineClock<R>, R, L>) -> Option<Waited>;
 
-    /// Notes when the cause comes about.
+    /// Notes when the cause occurs.
     fn cause(&self);
 
-    /// Sleeps for so many milliseconds.
+    /// Sleeps for this many milliseconds.
     fn sleep(&self, millis: u64);
 
-    /// Waits for a connection once the first is held.
+    /// Waits for a connection once the first one is held.
     fn wait<L: PoolParts>(
         &self,
         pool: &ServerPool<MachineClock<R>, R, L>,
         thread: usize,
     ) -> Option<Waited>;
 
-    /// What is told where the get was served just now, before which so much processor time was
-    /// used. It is held again where that is wanted.
+    /// Returns the result of a get that was served just now; `before` is the processor time used
+    /// before it. Holds the connection again if the trial says so.
     fn served(&self, before: u64) -> Waited;
 }
 
@@ -217,10 +218,10 @@ impl<R: Runtime + CpuClock> Waits<R> for Waiting<R> {
 
 impl<R: Runtime + CpuClock> Service<Server, Errors, NopCustomizer, MachineClock<R>, R>
     for Waiting<R> {
-    /// None where a get was not served.
+    /// None if a get was not served.
     type Told = Option<Waited>;
 
-    /// The sum of what was used, and when the first and the last one was served.
+    /// The sum of the used times, and when the first and the last get was served.
     type Outcome = Option<Waited>;
 
     /// From here on no connection is opened.
@@ -259,7 +260,7 @@ impl<R: Runtime + CpuClock> Service<Server, Errors, NopCustomizer, MachineClock<
     }
 }
 
-/// All threads of a trial but one wait for a connection of a pool, which has one.
+/// Has all threads of a trial but one wait for a connection of a pool with one connection.
 fn wait_in<R: Runtime + CpuClock + Threads>(rt: R, trial: Trial) -> Result<Waited, Fail> {
     let board = Board::new(rt.alloc())?;
     let service = Waiting {
@@ -291,18 +292,18 @@ fn wait_in<R: Runtime + CpuClock + Threads>(rt: R, trial: Trial) -> Result<Waite
     }
 }
 
-/// Of five times the quickest, in which the last of the threads that wait was served.
+/// Returns the quickest of five trials, by the time at which the last waiting thread was served.
 fn quickest<R: Runtime + CpuClock + Threads>(rt: R, trial: Trial) -> Result<u64, Fail> {
     let mut least = u64::MAX;
-    for _ in 0..5u32 {
+    for _ in 0..10u32 {
         least = least.min(wait_in(rt, trial)?.last);
     }
     Ok(least)
 }
 
-/// Four threads wait for a second, and three of them, as the bell was rung in between, for one
-/// more: they use less than 40 milliseconds of a processor. One that did not sleep, be it from that
-/// ring on, would use the most of a second.
+/// Four threads wait for a second; three of them are woken in between and wait for one more second.
+/// They use less than 40 milliseconds of a processor. A thread that did not sleep, or not after
+/// that notification, would use most of a second.
 #[test]
 fn waiting_threads_sleep(rt: HostRuntime) -> Result<(), Fail> {
     let trial = Trial {
@@ -326,8 +327,8 @@ fn return_wakes_who_waits(rt: HostRuntime) -> Result<(), Fail> {
     Ok(())
 }
 
-/// So does what else may serve a get. What the one let go hands on comes 20 milliseconds after the
-/// return, which has rung the bell, and so 30 before the next poll.
+/// So do the other events that may serve a get. The cancelled get hands its turn on 20 milliseconds
+/// after the return, which has notified the sleepers, and so 30 before the next poll.
 #[test]
 fn adding_and_a_turn_handed_on_wake_who_waits(rt: HostRuntime) -> Result<(), Fail> {
     for cause in [Cause::Adding, Cause::HandOn] {
@@ -337,7 +338,7 @@ fn adding_and_a_turn_handed_on_wake_who_waits(rt: HostRuntime) -> Result<(), Fai
     Ok(())
 }
 
-/// A detached connection wakes who waits, who then asks for another one, which the driver opens.
+/// A detached connection wakes the waiter, which then requests another one, opened by the driver.
 #[test]
 fn detached_connection_wakes_who_waits(rt: HostRuntime) -> Result<(), Fail> {
     let cause = Cause::Detach;
@@ -346,8 +347,7 @@ fn detached_connection_wakes_who_waits(rt: HostRuntime) -> Result<(), Fail> {
     Ok(())
 }
 
-/// A thread that waits in a pool that is closed times out at once, and not after the 30 seconds of
-/// its pool.
+/// A thread that waits in a closed pool times out at once, and not after its pool's 30 seconds.
 #[test]
 fn close_wakes_who_waits(rt: HostRuntime) -> Result<(), Fail> {
     let cause = Cause::Close;
@@ -356,9 +356,10 @@ fn close_wakes_who_waits(rt: HostRuntime) -> Result<(), Fail> {
     Ok(())
 }
 
-/// Two threads wait, and the second begins 25 milliseconds after the first, so it has slept longer
-/// where the connection comes back after 62: the first one has polled in between. That one's turn
-/// it is. A ring that woke but the other would have it come at its next poll, at 100.
+/// Two threads wait, and the second begins 25 milliseconds after the first. So at 62, when the
+/// connection is returned, the second one has slept longer: the first one has polled in between. It
+/// is the first one's turn. If only the other one were woken, it would come at its next poll, at
+/// 100.
 #[test]
 fn return_wakes_the_one_whose_turn_it_is(rt: HostRuntime) -> Result<(), Fail> {
     let trial = Trial {
@@ -372,7 +373,7 @@ fn return_wakes_the_one_whose_turn_it_is(rt: HostRuntime) -> Result<(), Fail> {
     Ok(())
 }
 
-/// Has the one connection by a handle of its own, and waits for it in vain.
+/// Holds the only connection with its own handle, and waits for it in vain.
 #[derive(Drop)]
 struct InVain<R> {
     rt: R,
@@ -380,7 +381,7 @@ struct InVain<R> {
 }
 
 impl<R: Runtime> User<Server, Errors, NopCustomizer, MachineClock<R>, R> for InVain<R> {
-    /// How many milliseconds each wait took at least, with the first connection's number.
+    /// How many milliseconds each wait took at least, and the number of the first connection.
     type Outcome = Option<(u64, u64, u64)>;
 
     fn run<L: PoolParts>(
@@ -408,24 +409,29 @@ impl<R: Runtime> User<Server, Errors, NopCustomizer, MachineClock<R>, R> for InV
     }
 }
 
-/// A get that is not served times out once its time has passed, the pool's or its own, and not
-/// before.
+/// A get that is not served times out after its pool's or its own timeout, and not earlier. A
+/// thread that always slept for 50 milliseconds would come 20 and 30 milliseconds late. The
+/// quickest of ten counts.
 #[test]
 fn wait_ends_at_its_deadline(rt: HostRuntime) -> Result<(), Fail> {
-    let board = Board::new(rt.alloc())?;
-    let user = InVain {
-        rt,
-        board: Arc::try_clone(&board)?,
-    };
-    let told = builder_on(&board)?
-        .max_size(1)
-        .connection_timeout(Duration::from_millis(30))
-        .with_pool(server_on(&board)?, MachineClock(rt), rt, &user)?;
-    let Some((number, pools, own)) = told else {
-        return Err(Fail::new("a get did not time out"));
-    };
-    assert_equal(&rt, number, 7);
-    assert!(&rt; (30..5000).contains(&pools), "{pools} milliseconds");
-    assert!(&rt; (120..5000).contains(&own), "{own} milliseconds");
+    let (mut pools, mut own) = (u64::MAX, u64::MAX);
+    for _ in 0..10u32 {
+        let board = Board::new(rt.alloc())?;
+        let user = InVain {
+            rt,
+            board: Arc::try_clone(&board)?,
+        };
+        let told = builder_on(&board)?
+            .max_size(1)
+            .connection_timeout(Duration::from_millis(30))
+            .with_pool(server_on(&board)?, MachineClock(rt), rt, &user)?;
+        let Some((number, first, second)) = told else {
+            return Err(Fail::new("a get did not time out"));
+        };
+        assert_equal(&rt, number, 7);
+        (pools, own) = (pools.min(first), own.min(second));
+    }
+    assert!(&rt; (30..50).contains(&pools), "{pools} milliseconds");
+    assert!(&rt; (120..150).contains(&own), "{own} milliseconds");
     Ok(())
 }

@@ -1,6 +1,6 @@
-//! A run over the bare state with checks that pass and fail, gets that are let go, addings and
-//! reaps: no connection is lost, whatever requests for memory are refused. That each answer is
-//! allowed is proved.
+//! A run over the bare state with passed and failed checks, cancelled gets, adds and reaps: no
+//! connection is lost, whatever requests for memory are refused. That each result is allowed is
+//! proved elsewhere.
 
 use super::{assert_equal, is_refused_afterwards, make};
 use bb8_core::api::{Config, Moment};
@@ -15,10 +15,10 @@ use std::sync::Arc;
 use std::test::Fail;
 use std::time::Duration;
 
-/// How many connections the pool may have.
+/// The `max_size` of the pool.
 const SIZE: u32 = 4;
 
-/// A connection, where it stands, and the get that holds it.
+/// A connection, its key, and the get that holds it.
 #[derive(Drop)]
 struct TakenOut {
     get: GetKey,
@@ -26,13 +26,13 @@ struct TakenOut {
     conn: ServerConnection,
 }
 
-/// A bare state, its connections, and what its run met.
+/// A bare state, its connections, and the counts of its run.
 #[derive(Drop)]
 struct Run {
     pool: PoolInternals<ServerConnection>,
     board: Arc<Board, Global>,
     at: Moment,
-    /// How many answers told of a refusal.
+    /// How many results reported a refusal.
     refused: u64,
     /// How many connections were closed by reaps.
     reaped: u64,
@@ -41,7 +41,7 @@ struct Run {
     waited: u64,
 }
 
-/// What becomes of a connection that a get took.
+/// The fate of a connection that a get took.
 #[derive(Clone, Copy)]
 enum Fate {
     Passes,
@@ -52,14 +52,15 @@ enum Fate {
 }
 
 impl Run {
-    /// Notes what a grant withheld. All numbers are there, so only memory was wanting.
+    /// Counts a grant that withheld something. Numbers are never used up here, so memory was
+    /// refused.
     fn note(&mut self, grant: Grant) {
         if grant.withheld > 0 {
             self.refused = self.refused.saturating_add(1);
         }
     }
 
-    /// How many connections were made and not dropped.
+    /// Returns how many connections were made and not dropped.
     fn alive(&self) -> u64 {
         self.board
             .made
@@ -67,8 +68,7 @@ impl Run {
             .saturating_sub(self.board.closed.get())
     }
 
-    /// Asserts that the connections that were made are those of the pool and those that were
-    /// dropped.
+    /// Asserts that each connection that was made is in the pool, or was dropped.
     fn assert_whole(&mut self, rt: &impl Abort) {
         let state = self.pool.state(self.at);
         assert_equal(&rt, state.connections as u64, self.alive());
@@ -92,7 +92,7 @@ impl Run {
         Ok(())
     }
 
-    /// Begins a get, where there is memory for it.
+    /// Begins a get, if there is memory for it.
     fn begin(&mut self, rt: &impl Abort) -> Option<GetKey> {
         match self.pool.begin(self.at) {
             Ok(BeginAnswer::Begun(get)) => Some(get),
@@ -104,7 +104,7 @@ impl Run {
         }
     }
 
-    /// What a get takes, if it does not wait.
+    /// Has a get take a connection, unless it waits.
     fn take(&mut self, rt: &impl Abort, get: GetKey) -> Option<TakenOut> {
         match self.pool.try_get(self.at, get) {
             Ok(TryAnswer::Taken(key, conn, grant)) => {
@@ -120,7 +120,7 @@ impl Run {
         }
     }
 
-    /// Lets a get go that holds nothing.
+    /// Cancels a get that holds nothing.
     fn let_go(&mut self, rt: &impl Abort, get: GetKey) {
         let gone = self.pool.give_up(self.at, get, Reason::TimedOut, false);
         assert!(rt;
@@ -129,7 +129,7 @@ impl Run {
         );
     }
 
-    /// The check passes: a guard has the connection, and gives it back.
+    /// Passes the check: a guard has the connection, and returns it.
     fn passes(&mut self, rt: &impl Abort, held: TakenOut) {
         let TakenOut { get, key, conn } = held;
         let Ok(CheckedOkAnswer::Served(key)) = self.pool.checked_ok(self.at, get, key.place) else {
@@ -141,7 +141,8 @@ impl Run {
         };
     }
 
-    /// The check fails: the connection is closed, and the get, which then holds nothing, is let go.
+    /// Fails the check: the connection is closed, and the get, which then holds nothing, is
+    /// cancelled.
     fn fails(&mut self, rt: &impl Abort, held: TakenOut, broken: bool) {
         let TakenOut { get, key, conn } = held;
         let answer = self.pool.checked_err(self.at, get, conn, broken, key.place);
@@ -153,7 +154,7 @@ impl Run {
         self.let_go(rt, get);
     }
 
-    /// The get is let go with the connection that it holds.
+    /// Cancels the get while it holds a connection.
     fn lets_go_held(&mut self, rt: &impl Abort, held: TakenOut, broken: bool) {
         let TakenOut { get, key, conn } = held;
         let why = Reason::Cancelled;
@@ -171,7 +172,7 @@ impl Run {
         }
     }
 
-    /// A get begins, takes what is idle, and ends so.
+    /// Begins a get, which takes an idle connection, and ends it in this way.
     fn plays(&mut self, rt: &impl Abort, end: Fate) {
         let Some(get) = self.begin(rt) else {
             return;
@@ -188,7 +189,7 @@ impl Run {
         }
     }
 
-    /// Two connections are added, where there is room and memory.
+    /// Adds two connections, if there are capacity and memory.
     fn adds(&mut self, rt: &impl Abort) -> Result<(), Fail> {
         for _ in 0..2 {
             let conn = make(&self.board)?;
@@ -207,8 +208,8 @@ impl Run {
         Ok(())
     }
 
-    /// A second later all that is idle but for one is reaped, as it is idle too long, and after a
-    /// second more that one, as it lives too long.
+    /// Reaps twice, a second apart: first all idle connections but one, by idle timeout, then that
+    /// one, by lifetime.
     fn reaps(&mut self, rt: &impl Abort) {
         for _ in 0..2 {
             self.at = Moment(self.at.0.saturating_add(1_000_000_000));
@@ -222,8 +223,8 @@ impl Run {
         assert_equal(&rt, self.pool.state(self.at).connections, 0);
     }
 
-    /// Each end once, beside a get that began before and waits; then two are added, and all that is
-    /// idle is reaped.
+    /// Makes each end once, beside a get that began before and waits. Then adds two connections,
+    /// and reaps all idle ones.
     fn round(&mut self, rt: &impl Abort) -> Result<(), Fail> {
         let waits = self.begin(rt);
         if let Some(get) = waits {

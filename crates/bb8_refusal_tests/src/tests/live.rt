@@ -1,6 +1,6 @@
-//! Live pools that are built, cloned, driven and asked for connections, whatever requests for
-//! memory are refused: an answer is what it is with all memory, or the refusal that its call names,
-//! and each connection that was opened or added is dropped once.
+//! Live pools that are built, cloned, driven and used, whatever requests for memory are refused:
+//! each result is the one with all memory, or the refusal that its call documents, and each
+//! connection that was opened or added is dropped once.
 ghost use Rattle.std.specs.Prelude.{◌≡◌, ◌<◌, true};
 ghost use Rattle.bb8.specs.Parts.{IsBlankOf};
 ghost use Rattle.bb8.specs.Settings.{is_lawful};
@@ -30,7 +30,7 @@ enum Met {
     Nothing,
 }
 
-/// What is run.
+/// The scenario of a run.
 #[derive(Clone, Copy, PartialEq, Eq)]
 enum Scenario {
     Builds,
@@ -39,8 +39,8 @@ enum Scenario {
     Hangs,
 }
 
-/// What a poll answers, which is not pending, and refused nothing but memory. None where it refused
-/// that.
+/// Returns the value of a poll that is not pending, and fails with nothing but `Memory`. None if
+/// memory was refused.
 fn answered<T: Drop>(rt: &impl Abort, polled: Polled<T, Refused>) -> Option<T> {
     match polled {
         Poll::Ready(Ok(answer)) => Some(answer),
@@ -52,7 +52,7 @@ fn answered<T: Drop>(rt: &impl Abort, polled: Polled<T, Refused>) -> Option<T> {
     }
 }
 
-/// A get with a handle of its own is served, or told `Memory`; then the pool is as before.
+/// An owned get is served, or returns `Memory`; then the pool is as before.
 fn owns<P: OwnedHandle<Server>>(rt: &impl Abort, task: &MockTask, pool: &P) -> Met {
     let before = sizes(pool.state());
     let met = match answered(rt, P::poll_owned(task, &mut pool.get_owned())) {
@@ -63,14 +63,14 @@ fn owns<P: OwnedHandle<Server>>(rt: &impl Abort, task: &MockTask, pool: &P) -> M
     met
 }
 
-/// The pool that the first poll of a building answers, which opened both first connections. None
-/// where it answers `Memory`.
+/// Returns the pool of a build whose first poll opened both first connections. None if it returned
+/// `Memory`.
 fn built<B: Unbuilt<Server>>(rt: &impl Abort, task: &MockTask, mut building: B) -> Option<B::Pool> {
     answered(rt, building.poll(task))
 }
 
-/// A get of a pool that was built with two connections is served, or told `Memory`; then the pool
-/// is as before.
+/// A get of a pool that was built with two connections is served, or returns `Memory`; then the
+/// pool is as before.
 fn gets<P: LentHandle<Server>>(rt: &impl Abort, task: &MockTask, pool: P) -> Met {
     assert_equal(rt, sizes(pool.state()), (2, 2));
     let met = match answered(rt, pool.poll(task, &mut pool.get())) {
@@ -84,8 +84,8 @@ fn gets<P: LentHandle<Server>>(rt: &impl Abort, task: &MockTask, pool: P) -> Met
     met
 }
 
-/// A connection is added, or withheld; the pool is cloned, or the clone refused; and an owned get
-/// is served by what is left of the two.
+/// A connection is added, or withheld; the pool is cloned, or the clone is refused; and an owned
+/// get is served on the remaining handle.
 fn clones<P: OwnedHandle<Server>>(
     rt: &impl Abort,
     task: &MockTask,
@@ -115,9 +115,9 @@ fn clones<P: OwnedHandle<Server>>(
     }
 }
 
-/// A driver opens three connections in its first turn. A claim for whose task there is no memory is
-/// not made, and the next turn makes it, if there is memory then. A claim is also what tells that
-/// no handle is left.
+/// A driver opens three connections in its first turn. If there is no memory for a task, its claim
+/// is left to the next turn, if there is memory then. A claim is also how a driver sees that no
+/// handle is left.
 fn opens<R: Abort + AllocGlobal, P: OwnedHandle<Server>, D: DriverCalls>(
     rt: &R,
     pool: P,
@@ -151,8 +151,8 @@ fn opens<R: Abort + AllocGlobal, P: OwnedHandle<Server>, D: DriverCalls>(
 
 type TestDriver<R, L> = Driver<Server, Errors, NopCustomizer, SetClock, R, L>;
 
-/// A driver that holds the task of the pool's one approval is handed to a thread, or dropped where
-/// none can be made. Either way the approval is given back, so that an adding finds room.
+/// A driver that holds the task of the pool's only approval is moved to a thread, or dropped if
+/// none can be started. Either way the approval is given back, so that an add finds capacity.
 fn hangs<R: Runtime + Abort + Threads + Eprint, L: PoolParts + 'static>(
     rt: R,
     board: &Arc<Board, Global>,
@@ -179,7 +179,7 @@ fn hangs<R: Runtime + Abort + Threads + Eprint, L: PoolParts + 'static>(
     Ok(met)
 }
 
-/// Runs this over a pool whose parts are named.
+/// Runs a scenario over a pool with these permits.
 fn run_on<R: Runtime + Abort + Threads + Eprint, L: PoolParts + 'static>(
     rt: R,
     blank: Blank,
@@ -216,8 +216,8 @@ fn run_on<R: Runtime + Abort + Threads + Eprint, L: PoolParts + 'static>(
     }
 }
 
-/// Runs this over a pool of so many connections, of which so many are to be idle. Each connection
-/// is dropped once, and so many were made where the run had all its memory, of which it tells.
+/// Runs a scenario over a pool with this `max_size` and `min_idle`. Each connection is dropped
+/// once. If the run had all its memory, `made` connections were made, and this is printed.
 fn runs<R: Runtime + Abort + Threads + Eprint>(
     rt: R,
     max_size: u32,

@@ -1,4 +1,4 @@
-//! Worked rows in which memory is refused, once or for good: the answers before, at and after the
+//! Worked rows in which memory is refused, once or for good: the results before, at and after the
 //! refusal.
 
 use super::{assert_equal, is_refused, is_refused_afterwards};
@@ -10,7 +10,7 @@ use std::process::Abort;
 
 const NOW: Moment = Moment(0);
 
-/// A grant of so many approvals.
+/// Returns a grant of this many approvals.
 fn granted(first: u64, count: u32) -> Grant {
     Grant {
         first,
@@ -19,7 +19,7 @@ fn granted(first: u64, count: u32) -> Grant {
     }
 }
 
-/// A grant of which all is withheld.
+/// Returns a grant that withholds all.
 fn withheld(first: u64, count: u32) -> Grant {
     Grant {
         first,
@@ -28,7 +28,7 @@ fn withheld(first: u64, count: u32) -> Grant {
     }
 }
 
-/// A bare state that checks nothing, how many requests for memory it was refused, and whether
+/// A bare state with the check off, how many of its requests for memory were refused, and whether
 /// memory stays refused.
 #[derive(Drop)]
 struct PlayedRow {
@@ -57,7 +57,7 @@ impl PlayedRow {
         }
     }
 
-    /// Notes a refusal: whether memory stays refused. If not, it is the only one.
+    /// Counts a refusal, and returns whether memory stays refused. If not, it is the only one.
     fn stays_refused(&mut self, rt: &impl Abort) -> bool {
         self.refused = self.refused.saturating_add(1);
         self.is_for_good |= is_refused(self.alloc);
@@ -68,7 +68,7 @@ impl PlayedRow {
         self.is_for_good
     }
 
-    /// Asserts how many connections there are, and how many of them are idle.
+    /// Asserts how many connections there are, and how many are idle.
     fn assert_sizes(&mut self, rt: &impl Abort, connections: u32, idle: u32) {
         let state = self.pool.state(NOW);
         assert_equal(
@@ -78,18 +78,18 @@ impl PlayedRow {
         );
     }
 
-    /// What an event is answered.
+    /// Returns the result of an event.
     fn answer(&mut self, act: Act) -> Answer {
         apply(&mut self.pool, &mut self.known, Event { at: NOW, act })
     }
 
-    /// An event is answered so, and needs no memory.
+    /// Asserts the result of an event that needs no memory.
     fn makes(&mut self, rt: &impl Abort, act: Act, answer: Answer) {
         assert_equal(rt, self.answer(act), answer);
     }
 
-    /// An event is answered so; where it is refused memory nothing changes, and it is answered so
-    /// at the next ask, unless memory stays refused. Whether it came to be.
+    /// Asserts the result of an event. If memory is refused, nothing changes, and the result
+    /// follows at the next try, unless memory stays refused. Returns whether it did.
     fn tries(&mut self, rt: &impl Abort, act: Act, answer: Answer, refusal: Answer) -> bool {
         let before = self.pool.state(NOW);
         let first = self.answer(act);
@@ -102,15 +102,15 @@ impl PlayedRow {
         !stays
     }
 
-    /// A connection is added under this number; where it is refused memory it is withheld.
+    /// Adds a connection under this number. If memory is refused, it is withheld.
     fn adds(&mut self, rt: &impl Abort, number: u64) -> bool {
         let added = Answer::Added(number, None);
         self.tries(rt, Act::Add(false), added, Answer::Withheld)
     }
 }
 
-/// Tells of a row in which nothing was refused, and of one in which memory was refused where the
-/// row says so. Nothing is told of one that ended before, for want of memory.
+/// Prints whether nothing was refused, or memory was refused where the row says. Prints nothing
+/// about a row that ended earlier, for lack of memory.
 fn tell<R: Abort + AllocGlobal + Eprint>(rt: &R, row: &PlayedRow, is_row: Option<bool>) {
     if is_row == Some(true) {
         let _ = rt.eprintln("memory was refused where the row says so");
@@ -121,8 +121,8 @@ fn tell<R: Abort + AllocGlobal + Eprint>(rt: &R, row: &PlayedRow, is_row: Option
     }
 }
 
-/// Two are added, and one of them is closed; the next is below the peak, and one more is past it.
-/// Whether memory was refused there.
+/// Two connections are added, and one of them is closed. The next one is below the peak, and one
+/// more is past it. Returns whether memory was refused there.
 fn is_withheld_past_the_peak(rt: &impl Abort, row: &mut PlayedRow) -> Option<bool> {
     if !(row.adds(rt, 0) && row.adds(rt, 1)) {
         return None;
@@ -143,8 +143,8 @@ fn is_withheld_past_the_peak(rt: &impl Abort, row: &mut PlayedRow) -> Option<boo
     Some(row.refused > before)
 }
 
-/// Two are opened, and a get is served, which asks for a third place; what is not granted there is
-/// asked for by the next get. Whether memory was refused for the third place.
+/// Two connections are opened, and a get is served, which requests a third slot; if that is not
+/// granted, the next get requests it. Returns whether memory was refused for the third slot.
 fn is_third_place_withheld(rt: &impl Abort, row: &mut PlayedRow) -> Option<bool> {
     let (two, none) = (granted(0, 2), withheld(0, 2));
     if !row.tries(
@@ -181,9 +181,9 @@ fn is_third_place_withheld(rt: &impl Abort, row: &mut PlayedRow) -> Option<bool>
     Some(is_row)
 }
 
-/// The row `third_adding_withheld`: two connections are added, one is served and comes back broken,
-/// and a third is added, for which there is room below the peak; a fourth is withheld where its
-/// request for memory is refused, and added at the next ask.
+/// The row `third_adding_withheld`: two connections are added, one is checked out and returned
+/// broken, and a third is added, for which there is memory below the peak. A fourth is withheld if
+/// its request for memory is refused, and added at the next try.
 #[test]
 fn adding_is_withheld_past_the_peak_alone(rt: HostRuntime) {
     let mut row = PlayedRow::new(&rt, rt.alloc(), 3, None);
@@ -191,7 +191,7 @@ fn adding_is_withheld_past_the_peak_alone(rt: HostRuntime) {
     tell(&rt, &row, is_row);
 }
 
-/// With the request for the third place refused, the row `third_place_refused`.
+/// With the request for the third slot refused, the row `third_place_refused`.
 #[test]
 fn third_place_is_granted_at_the_next_ask(rt: HostRuntime) {
     let mut row = PlayedRow::new(&rt, rt.alloc(), 5, Some(2));

@@ -1,5 +1,5 @@
 //! Connections so large that no machine has memory for all that a pool wants at once: refusals that
-//! come about in each run of the tests. A pool of 4,294,967,295 of them would take 35 terabytes.
+//! occur in each run of the tests. A pool of 4,294,967,295 of them would take 35 terabytes.
 
 use super::assert_equal;
 use bb8_core::api::{Config, Moment};
@@ -11,13 +11,13 @@ use std::time::Duration;
 
 const NOW: Moment = Moment(0);
 
-/// When a connection of the first moment has lived too long.
+/// When a connection of the first moment has reached its lifetime.
 const LATER: Moment = Moment(1_000_000_000);
 
-/// How many connections the pool may have, and how many are to be idle.
+/// The pool's `max_size` and `min_idle`.
 const MANY: u32 = 4_294_967_295;
 
-/// A connection of 8 KiB. Of 64 KiB the compiler takes minutes.
+/// A connection of 8 KiB. With 64 KiB the compiler takes minutes.
 #[derive(Drop)]
 struct Vast {
     words: [u64; 1024],
@@ -31,7 +31,7 @@ impl Vast {
     }
 }
 
-/// What is withheld of a grant from a number on, of which so many are granted.
+/// Returns a grant from a number on, with this many granted and withheld.
 fn part(first: u64, count: u32, withheld: u32) -> Grant {
     Grant {
         first,
@@ -40,8 +40,7 @@ fn part(first: u64, count: u32, withheld: u32) -> Grant {
     }
 }
 
-/// A connection is added, which is to have this number; where memory is refused, it is added at the
-/// next ask.
+/// Adds a connection, which gets this number. If memory is refused, it is added at the next try.
 fn adds(rt: &impl Abort, pool: &mut PoolInternals<Vast>, number: u64) {
     for _ in 0..2 {
         match pool.add(NOW, Vast::new(number), false) {
@@ -56,7 +55,7 @@ fn adds(rt: &impl Abort, pool: &mut PoolInternals<Vast>, number: u64) {
     panic!(rt; "{number} was withheld twice");
 }
 
-/// A get begins; where memory is refused, it does at the next ask.
+/// Begins a get. If memory is refused, it begins at the next try.
 fn begins(rt: &impl Abort, pool: &mut PoolInternals<Vast>) -> GetKey {
     for _ in 0..2 {
         if let Ok(BeginAnswer::Begun(get)) = pool.begin(NOW) {
@@ -67,7 +66,7 @@ fn begins(rt: &impl Abort, pool: &mut PoolInternals<Vast>) -> GetKey {
 }
 
 /// A grant of nearly 4,294,967,295 is withheld, two connections are added one by one, and once one
-/// of them is closed one approval is granted, below the peak.
+/// of them is closed, one approval is granted, below the peak.
 #[test]
 fn vast_grants_are_withheld_past_the_peak(rt: HostRuntime) {
     let config = Config {
@@ -89,7 +88,7 @@ fn vast_grants_are_withheld_past_the_peak(rt: HostRuntime) {
         panic!(&rt; "it was not served");
     };
     assert_equal(&rt, (conn.words[0], grant), (0, part(2, 0, MANY - 2)));
-    // The idle one has lived too long. Then one place is free below the peak: for that one no
+    // The idle one has reached its lifetime. Then one slot is free below the peak, for which no
     // memory is needed.
     let ReapAnswer::Reaped {
         closed,

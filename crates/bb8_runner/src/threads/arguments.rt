@@ -1,4 +1,4 @@
-//! What the arguments of the program ask for.
+//! The arguments of the program.
 ghost use Rattle.std.specs.Prelude.{◌≡◌, ◌≤◌, ℕ, Some, map, string_bytes};
 ghost use Rattle.bb8_runner.specs.Words.{Threads};
 ghost use Rattle.bb8_runner.specs.Arguments.{threads_of, arguments_of};
@@ -8,13 +8,13 @@ use crate::grammar::number;
 /// How a script is run.
 #[derive(Clone, Copy, Debug, PartialEq, Eq)]
 pub enum Mode {
-    /// One event after the other, and each answer is told.
+    /// One event after the other, with all results.
     Script,
-    /// In so many threads, from 1 to 64, over one journal.
+    /// In this many threads, from 1 to 64, over one journal.
     Threads(u8),
 }
 
-/// So many threads, where they are from 1 to 64.
+/// Returns this many threads, None if they are not from 1 to 64.
 fn threads_of(count: u64) -> Option<Mode>
     ensures { result ≡ threads_of count }
 {
@@ -24,8 +24,8 @@ fn threads_of(count: u64) -> Option<Mode>
     }
 }
 
-/// What the words after the program's name ask for: no word, or `threads` and a number from 1 to
-/// 64, which is read as in a script. None where they are none of these.
+/// Parses the words after the program's name: none, or `threads` and a number from 1 to 64, written
+/// as in a script. Returns None for any others.
 pub fn arguments(words: &[String]) -> Option<Mode>
     ensures mode { result ≡ arguments_of (map string_bytes words.now) }
     ensures threads { (n : ℕ) → result ≡ Some (Threads n) → (1 ≤ n) × (n ≤ 64) }

@@ -13,19 +13,19 @@ use std::sync::ledger::Blank;
 use std::thread;
 use std::thread::Threads;
 
-/// What all threads did.
+/// The outcome of all threads.
 #[derive(Drop)]
 pub struct Dealt {
     /// The history.
     pub entries: Vec<Entry>,
-    /// The state that it leads to.
+    /// The final state.
     pub pool: PoolInternals<u64>,
-    /// What the seats noted.
+    /// The notes of the seats.
     pub notes: Vec<Notes>,
 }
 
-/// Makes the events of one seat, in order. Where there is no room for one, it says so and stops;
-/// and it stops where another said so.
+/// Makes the events of one seat, in order. If there is no room for one, it sets `refused` and
+/// stops; it also stops if another thread has set it.
 fn make_own<R: Wait, L: Recorded>(
     rt: &R,
     journal: &SharedJournal<L>,
@@ -47,9 +47,9 @@ fn make_own<R: Wait, L: Recorded>(
     seat
 }
 
-/// Makes the events of each seat in a thread of its own, and gives the seats back once all threads
-/// ended. `Memory` comes where a thread could not be started, or memory for the lists of threads
-/// and of seats was refused; then the threads that run stop early.
+/// Makes the events of each seat in a thread of its own, and returns the seats when all threads
+/// have ended. Fails with `Memory` if a thread cannot be started, or memory for the lists of
+/// threads and seats is refused; then the running threads stop early.
 fn in_threads<R: Threads + Wait + Sync, L: Recorded + Send + Sync>(
     rt: &R,
     alloc: Global,
@@ -84,9 +84,9 @@ fn in_threads<R: Threads + Wait + Sync, L: Recorded + Send + Sync>(
     )
 }
 
-/// Deals the events to as many threads as the blank ledger has parts, over one journal of the
-/// configuration. `Memory` comes where memory was refused, `NoRoom` included, and where a thread
-/// could not be started.
+/// Deals the events to as many threads as the blank ledger has parts, over one journal with the
+/// configuration. Fails with `Memory` if memory is refused, for an entry too, or a thread cannot be
+/// started.
 pub fn deal<R: Threads + Wait + Sync, L: Recorded + Send + Sync>(
     rt: &R,
     alloc: Global,

@@ -1,4 +1,4 @@
-//! A script from bytes to bytes, in threads.
+//! A script run from bytes to bytes, in threads.
 ghost use Rattle.std.specs.Prelude.{◌≡◌, ◌<◌, true, List, ℕ, IfOk, IfSome, IfErr, IsErrOf, string_bytes};
 ghost use Rattle.bb8_runner.specs.Words.{Appends, settings_of, is_lawful, Verdict};
 ghost use Rattle.bb8_runner.specs.Threads.{IsThreadsAnswer, IsDealtText};
@@ -18,7 +18,7 @@ use std::sync::Wait;
 use std::sync::ledger::Blank;
 use std::thread::Threads;
 
-/// What is written for a script, which is dealt to so many threads.
+/// Returns the output of a script that is dealt to threads.
 fn told_of<H: Threads + Wait + Sync>(
     rt: &H,
     alloc: Global,
@@ -40,7 +40,7 @@ fn told_of<H: Threads + Wait + Sync>(
     Ok(dealt_text(alloc, dealt.entries.len(), audited, last)?)
 }
 
-/// What is written for an input.
+/// Returns the output for an input.
 fn answer<H: Threads + Wait + Sync>(
     rt: &H,
     alloc: Global,
@@ -59,13 +59,13 @@ fn answer<H: Threads + Wait + Sync>(
     }
 }
 
-/// Reads a script to its end, deals its events to so many threads over one journal, event i, from
-/// 0, to thread i mod `threads`, and writes how many entries the history has, whether the notes of
-/// the threads account for it, and the state that it ended in; or which line is the first bad one.
+/// Reads a script to its end and deals its events to threads over one journal: event i, from 0,
+/// goes to thread i mod `threads`. Writes the count of the history's entries, whether the threads'
+/// notes account for it, and the final state; or the number of the first bad line.
 ///
-/// `Read` comes where a read failed, `Write` where a write failed, and `Memory` where memory was
-/// refused, also for an entry. Nothing is written before the whole input was read and judged, so
-/// only after `Write` may a beginning of the output have gone out.
+/// Fails with `Read` if a read fails, `Write` if a write fails, `Memory` if memory is refused, for
+/// an entry too. Nothing is written before the whole input has been read and parsed, so only after
+/// `Write` the beginning of the output may have been written.
 pub fn run_threads<H: Threads + Wait + Sync, R: Source, W: Sink>(
     rt: &H,
     alloc: Global,
@@ -74,20 +74,20 @@ pub fn run_threads<H: Threads + Wait + Sync, R: Source, W: Sink>(
     writer: &mut W,
 ) -> Result<Verdict, Fault>
     requires some { 0 < threads }
-    // What is written is the answer to what was read.
+    // The output is the answer to the input.
     ensures told { IfOk result (λ verdict. IfSome (R.remaining reader.old) (λ input.
         (text : List ℕ) × IsThreadsAnswer input verdict text
         × Appends (W.contents writer.old) (W.contents writer.new) text)) }
-    // `Read` comes where a read failed.
+    // `Read` is returned only if a read failed.
     ensures read_failed { IsErrOf result Fault.Read → R.read_fails reader.old reader.new }
-    // Where a read failed nothing was written.
+    // If a read failed, nothing was written.
     ensures unread { IsErrOf result Fault.Read → writer.new ≡ writer.old }
-    // `Write` comes where writing the answer to what was read failed.
+    // `Write` is returned only if writing the answer to the input failed.
     ensures write_failed { IsErrOf result Fault.Write → ((text : List ℕ)
         × W.write_fails writer.old text writer.new
         × IfSome (R.remaining reader.old) (λ input.
         (verdict : Verdict) × IsThreadsAnswer input verdict text)) }
-    // Where memory was refused nothing was written.
+    // If memory was refused, nothing was written.
     ensures unanswered { IsErrOf result Fault.Memory → writer.new ≡ writer.old }
 {
     let input = reader.read_whole(alloc)?;

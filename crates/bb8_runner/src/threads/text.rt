@@ -1,4 +1,4 @@
-//! What is told of a script that threads ran.
+//! The output of a script that threads ran.
 ghost use Rattle.std.specs.Prelude.{◌≡◌, IfOk, string_bytes};
 ghost use Rattle.bb8_runner.specs.Words.{figures_of};
 ghost use Rattle.bb8_runner.specs.Threads.{dealt_text};
@@ -8,7 +8,7 @@ use bb8_core::api::State;
 use std::alloc::{AllocError, Global};
 use std::fmt::Write;
 
-/// How many entries there are, what the audit says, and the state line. Err where memory was
+/// Returns the count of entries, the result of the audit, and the state line. Fails if memory is
 /// refused.
 pub fn dealt_text(
     alloc: Global,

@@ -1,5 +1,5 @@
-//! Tests against values from outside: rows that were worked out by hand, audits that must say no,
-//! and refused memory.
+//! Tests against values from outside: rows that were worked out by hand, audits that must fail, and
+//! refused memory.
 
 use super::assert_equal;
 use bb8_core::api::{Config, Moment};
@@ -11,7 +11,7 @@ mod meeting;
 mod refusals;
 mod scripts;
 
-/// A pool that checks no connection before it hands it out.
+/// Returns settings with the check off.
 fn unchecked(max_size: u32, min_idle: Option<u32>) -> Config {
     Config {
         max_size,
@@ -21,12 +21,12 @@ fn unchecked(max_size: u32, min_idle: Option<u32>) -> Config {
     }
 }
 
-/// What happens at moment 0.
+/// Returns an event at moment 0.
 fn event(act: Act) -> Event {
     Event { at: Moment(0), act }
 }
 
-/// No grant.
+/// An empty grant.
 const NOTHING: Grant = Grant {
     first: 0,
     count: 0,

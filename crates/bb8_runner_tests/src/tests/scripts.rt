@@ -1,5 +1,5 @@
-//! Scripts from bytes to bytes: what no transcript can tell, as faults of streams, how a script
-//! ended, and bytes that do not show.
+//! Scripts from bytes to bytes, as far as no transcript can show them: faults of streams, verdicts,
+//! and invisible bytes.
 
 use super::assert_equal;
 use bb8_runner::fault::Fault;
@@ -14,7 +14,7 @@ mod judged;
 mod refusals;
 mod spelled;
 
-/// One connection is added, taken and given back.
+/// One connection is added, checked out and returned.
 const SCRIPT: &[u8] = b"\
     config max_size=1 check=off\n\
     0 add\n\
@@ -29,7 +29,7 @@ const ANSWERS: &[u8] = b"\
     kept 0\n\
     state connections 1 idle 1 started 1 direct 1 waited 0 timed_out 0 cancelled 0 wait_us 0 created 0 broken 0 invalid 0 lifetime 0 idle_timeout 0\n";
 
-/// What a script writes, and how it ends.
+/// Returns the verdict and the output of a script.
 fn run(rt: &HostRuntime, input: &[u8]) -> Result<(Verdict, Vec<u8>), Fail> {
     let mut reader = input;
     let mut written = Vec::new(rt.alloc());
@@ -64,7 +64,7 @@ fn tells_a_line_that_was_cut(rt: HostRuntime) -> Result<(), Fail> {
     Ok(())
 }
 
-/// A reader that gives three bytes at a time, and fails at its last read where one is counted.
+/// A reader that returns three bytes at a time, and fails at this read, if one is set.
 #[derive(Drop)]
 struct CountedReader<'a> {
     rest: &'a [u8],
@@ -86,7 +86,7 @@ impl Read for CountedReader<'_> {
     }
 }
 
-/// A writer that takes five bytes at a time, and fails at its last write where one is counted.
+/// A writer that takes five bytes at a time, and fails at this write, if one is set.
 #[derive(Drop)]
 struct CountedWriter {
     writes: u32,

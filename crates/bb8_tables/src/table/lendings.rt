@@ -1,85 +1,112 @@
-//! How many entries of the tables a step is lent, and how often it searches one.
+//! Counts the table entries that a step reads, and its searches.
 ghost use Rattle.std.specs.Prelude.{◌≡◌};
-ghost use Rattle.bb8_tables.specs.Lent.{none_lent, begun, lends, searches};
+ghost use Rattle.bb8_tables.specs.Lent.{none_lent, after_count, lends, searches};
 
 use std::marker::Model;
 
-/// How many entries of the tables were lent, and how often a table was searched, since the latest
-/// step began, and the sum of all that was counted, from which what was counted before is known.
-/// Each beginning adds one to that sum, so that one that tells of one step began its count once,
-/// and looked at nothing before. Outside of this file one comes of an `UncountedAccess`, or of
-/// another one (`begun`). An entry is lent each time what stands there is read or changed, found by
-/// its place, along an order or by its number; not where it is made or given away, nor where its
-/// neighbours are joined. A search is made where a hint is stale.
-#[derive(Drop)]
+/// The access counter of one step: the table entries that it reads, and its searches of a table.
+///
+/// Each read or change of an entry counts, whether it is found by its index, along a queue or by
+/// its number. Exceptions: the entry's creation and removal, and the linking of its neighbours. A
+/// stale hint costs a search.
+///
+/// It is not `Drop`, so a step cannot throw one away. It must end it in its state's
+/// `LatestLendings`, which counts the ends.
 pub struct Lendings {
-    total: u64,
     lent: u64,
     searched: u64,
 }
 
 impl Model for Lendings {
-    ghost use Rattle.bb8_tables.specs.Lent.{Lent, lent_code, lent_before};
+    ghost use Rattle.bb8_tables.specs.Lent.{Lent, lent_code};
 
     ghost Value = { Lent };
 
     ghost coded = { lent_code };
 
-    ghost view = { λ a. record { past = lent_before a.total a.lent a.searched; lent = a.lent; searched = a.searched } };
+    ghost view = { λ a. record { ended = 0; lent = a.lent; searched = a.searched } };
 }
 
-/// Lets to look on a count of one's own, which is forgotten: that of who asks. The module of tables
-/// alone can make one, and does with each new table. A step, which is to count all, does not know
-/// the type of the one in its state.
+/// What the latest step counted, and how many counters ended so far: if one more did, the step made
+/// no other. Outside this file only an `UncountedAccess` makes a value, so a step has no other than
+/// that of its state.
+#[derive(Drop)]
+pub struct LatestLendings {
+    ended: u64,
+    lent: u64,
+    searched: u64,
+}
+
+impl Model for LatestLendings {
+    ghost use Rattle.bb8_tables.specs.Lent.{Lent, lent_code};
+
+    ghost Value = { Lent };
+
+    ghost coded = { lent_code };
+
+    ghost view = { λ a. record { ended = a.ended; lent = a.lent; searched = a.searched } };
+}
+
+/// Permission to drop a counter, and so to read the tables without counting. Only the module of
+/// tables creates it, with each new table. A step does not know the type of the one in its state,
+/// so it cannot use it.
 #[derive(Drop)]
 pub struct UncountedAccess {
     given: (),
 }
 
 impl UncountedAccess {
-    /// The leave, with a new table.
+    /// Returns the permission, for a new table.
     #[inline]
     pub(super) fn given() -> Self {
         UncountedAccess { given: () }
     }
 
-    /// A count of nothing yet.
+    /// Returns the count before the first step.
     #[inline]
-    pub fn count(&self) -> Lendings
+    pub fn latest(&self) -> LatestLendings
         ensures { result ≡ none_lent }
     {
-        Lendings {
-            total: 0,
+        LatestLendings {
+            ended: 0,
             lent: 0,
             searched: 0,
         }
+    }
+
+    /// Drops a counter.
+    #[inline]
+    pub fn forget(&self, lendings: Lendings) {
+        let Lendings {
+            lent: _,
+            searched: _,
+        } = lendings;
     }
 }
 
-impl Lendings {
-    /// A step begins, which has lent nothing. The sum of all before it wraps.
+impl LatestLendings {
+    /// Ends the counter of a step. The number of ended counters wraps.
     #[inline]
-    pub fn start(&mut self)
-        ensures { self.new ≡ begun self.old }
+    pub fn end(&mut self, lendings: Lendings)
+        ensures { self.new ≡ after_count lendings self.old }
     {
-        *self = self.begun();
+        let Lendings { lent, searched } = lendings;
+        self.ended = self.ended.wrapping_add(1);
+        self.lent = lent;
+        self.searched = searched;
     }
 
-    /// What a step that begins now counts in, before it is known that it is made.
-    #[inline]
-    pub fn begun(&self) -> Lendings
-        ensures { result ≡ begun self.now }
+    /// Ends the counter of a step that does not fit, which is rare. Inlined, it costs other steps
+    /// two instructions.
+    #[cold]
+    #[inline(never)]
+    pub fn end_unfit(&mut self, lendings: Lendings)
+        ensures { self.new ≡ after_count lendings self.old }
     {
-        let _lent = self.lent;
-        let _searched = self.searched;
-        Lendings {
-            total: self.total.wrapping_add(1),
-            lent: 0,
-            searched: 0,
-        }
+        self.end(lendings);
     }
 
-    /// How many entries were lent since the latest step began.
+    /// Returns how many entries the latest step read.
     #[inline]
     pub fn lent(&self) -> u64
         ensures { result ≡ self.now.lent }
@@ -87,22 +114,34 @@ impl Lendings {
         self.lent
     }
 
-    /// How many searches were made since the latest step began.
+    /// Returns how often the latest step searched.
     #[inline]
     pub fn searched(&self) -> u64
         ensures { result ≡ self.now.searched }
     {
         self.searched
     }
+}
 
-    /// Counts one entry more.
+impl Lendings {
+    /// Returns a counter at zero.
+    #[inline]
+    pub fn none() -> Self
+        ensures { result ≡ none_lent }
+    {
+        Lendings {
+            lent: 0,
+            searched: 0,
+        }
+    }
+
+    /// Counts one more entry.
     #[inline]
     pub(super) fn lend(&mut self)
         ensures { self.new ≡ lends self.old }
     {
         if self.lent < u64::MAX {
             self.lent += 1;
-            self.total = self.total.wrapping_add(1);
         }
     }
 
@@ -113,7 +152,6 @@ impl Lendings {
     {
         if self.searched < u64::MAX {
             self.searched += 1;
-            self.total = self.total.wrapping_add(1);
         }
     }
 }

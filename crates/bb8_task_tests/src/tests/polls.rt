@@ -1,4 +1,4 @@
-//! Replenishings that are polled by hand over the plain state, with a server that counts.
+//! Tasks that are polled by hand over the plain state, with a server that counts.
 ghost use Rattle.std.specs.Prelude.{⊤};
 ghost use Rattle.bb8_core.specs.StateView.{Steps};
 ghost use Rattle.bb8_tasks.specs.Homes.{TaskStepsBy};
@@ -17,9 +17,9 @@ use std::time::Duration;
 /// One millisecond in nanoseconds.
 const MILLI: u64 = 1_000_000;
 
-/// The plain state of a pool, and a server that numbers its openings from 1. Each is ready at its
-/// first poll, with its number as the connection. Where the preparation of one fails, that of each
-/// other one is pending once.
+/// The plain state of a pool, and a server that numbers its attempts from 1. Each one is ready at
+/// its first poll, with its number as the connection. If the preparation of one fails, each other
+/// preparation is pending once.
 #[derive(Drop)]
 struct Served {
     state: PoolInternals<u64>,
@@ -125,7 +125,8 @@ impl Opener<u64, u64> for Served {
     fn let_go(&mut self, _connection: u64) {}
 }
 
-/// The settings of a pool of one connection, which is to be idle, with five seconds.
+/// Returns settings for a pool of one connection, which is to be idle, with a timeout of five
+/// seconds.
 fn one_in_five_seconds() -> Config {
     Config {
         max_size: 1,
@@ -135,7 +136,7 @@ fn one_in_five_seconds() -> Config {
     }
 }
 
-/// A pool of one connection, whose approval is claimed, and which connection's preparation fails.
+/// Returns a pool of one connection, whose approval is claimed, and with a preparation that fails.
 fn pool_of_one(
     rt: &impl Abort,
     alloc: Global,
@@ -158,7 +159,7 @@ fn pool_of_one(
     (pool, approval)
 }
 
-/// How many connections there are, and how many are idle.
+/// Returns how many connections there are, and how many are idle.
 fn sizes(pool: &mut PoolInternals<u64>) -> (u32, u32) {
     let state = pool.state(Moment(0));
     (state.connections, state.idle_connections)

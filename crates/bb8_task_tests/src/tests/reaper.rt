@@ -11,8 +11,8 @@ use std::time::Duration;
 /// Half a second in nanoseconds.
 const HALF: u64 = 500_000_000;
 
-/// A pool of two, of which one is to be idle, with these limits in seconds on how long its
-/// connections stay idle and how long they live. So many were added at 0.
+/// Returns a pool with a `max_size` of two and a `min_idle` of one, with these limits in seconds on
+/// idle time and lifetime. This many connections were added at 0.
 fn pool_with(
     rt: &impl Abort,
     alloc: Global,
@@ -36,8 +36,8 @@ fn pool_with(
     pool
 }
 
-/// What a reap answers that closes so many that idled too long and so many that lived too long, and
-/// grants so many from a number on.
+/// Returns the result of a reap that closes this many by idle timeout and by lifetime, and grants
+/// this many from a number on.
 fn reaped(by_idle: u32, by_life: u32, first: u64, count: u32) -> ReaperAnswer {
     ReaperAnswer::Reaped {
         closed: by_idle.saturating_add(by_life),
@@ -51,7 +51,7 @@ fn reaped(by_idle: u32, by_life: u32, first: u64, count: u32) -> ReaperAnswer {
     }
 }
 
-/// Asserts what a reaper of that pool answers after half a second, after one, at the same moment
+/// Asserts the results of a reaper of that pool after half a second, after one, at the same moment
 /// once more, and after two.
 fn assert_reaps(
     rt: &impl Abort,
@@ -71,8 +71,8 @@ fn assert_reaps(
     }
 }
 
-/// How many connections there are, and how many were closed as they idled too long, and lived too
-/// long.
+/// Returns how many connections there are, and how many were closed by idle timeout, and by
+/// lifetime.
 fn figures(pool: &mut PoolInternals<u64>) -> (u32, u64, u64) {
     let state = pool.state(Moment(0));
     (
@@ -82,8 +82,8 @@ fn figures(pool: &mut PoolInternals<u64>) -> (u32, u64, u64) {
     )
 }
 
-/// Two idle for a second, and the one that entered first is closed; the other one is spared, at the
-/// next tick as well.
+/// Two connections are idle for a second, and the one that became idle first is closed; the other
+/// one is spared, also at the next tick.
 #[test]
 fn reaper_closes_what_idled_out(rt: HostRuntime) {
     let mut pool = pool_with(&rt, rt.alloc(), (Some(1), None), 2);
@@ -93,8 +93,8 @@ fn reaper_closes_what_idled_out(rt: HostRuntime) {
     assert_equal(&rt, figures(&mut pool), (1, 1, 0));
 }
 
-/// One lives for a second and is closed, though one is to be idle; another one is granted, which no
-/// later tick does again.
+/// One connection reaches its lifetime and is closed, although one is to be idle. Another one is
+/// granted, and not again at later ticks.
 #[test]
 fn reaper_closes_what_lives_too_long(rt: HostRuntime) {
     let mut pool = pool_with(&rt, rt.alloc(), (Some(1), Some(1)), 1);

@@ -1,4 +1,5 @@
-//! Replays of one replenishing: the worked waits, and lists that go back, jump, or end the clock.
+//! Replays of one task: the worked waits, and lists that go back, jump, or reach the end of the
+//! clock.
 use super::assert_equal;
 use bb8_core::api::{Config, Moment};
 use bb8_tasks::{Backoff, ReplenishAnswer, Reply, replay_backoff, wait_after};
@@ -13,7 +14,7 @@ const MILLI: u64 = 1_000_000;
 /// The greatest moment.
 const LAST: u64 = 18_446_744_073_709_551_615;
 
-/// The default configuration with a timeout in nanoseconds, and with or without retry.
+/// Returns the default configuration with a timeout in nanoseconds, and with or without retry.
 fn config_of(timeout: u64, retry_connection: bool) -> Config {
     Config {
         connection_timeout: Duration::from_nanos(timeout),
@@ -22,12 +23,12 @@ fn config_of(timeout: u64, retry_connection: bool) -> Config {
     }
 }
 
-/// A replay with that timeout, and with retry.
+/// Replays with this timeout, and with retry.
 fn replay(rt: &impl Abort, alloc: Global, timeout: u64, polls: &[(Moment, Reply)]) -> Backoff {
     replay_backoff(alloc, config_of(timeout, true), polls).expect(rt, "no memory")
 }
 
-/// Asserts the answers and the tries of a replay with retry.
+/// Asserts the results and the tries of a replay with retry.
 fn assert_replays(
     rt: &impl Abort,
     alloc: Global,
@@ -41,7 +42,7 @@ fn assert_replays(
     assert_equal(&rt, replayed.tries, tries);
 }
 
-/// Asserts that polls at these moments, each with an error, are tried each, and that the last one
+/// Asserts that each poll at these moments, all with an error, is a try, and that the last one
 /// fails.
 fn assert_tries_each(rt: &impl Abort, alloc: Global, timeout: u64, moments: &[u64]) {
     let mut polls = Vec::new(alloc);
@@ -87,8 +88,8 @@ fn waits_double_up_to_half_the_timeout(rt: HostRuntime) {
     );
 }
 
-/// Polled when due, a timeout of 1 s, 30 s and 100 ms has 4, 8 and 4 tries: its waits double up to
-/// half of it (0.4, 0.5, 0.5 s; 0.4 to 12.8, 15 s; 50, 50, 50 ms).
+/// Polled when due, timeouts of 1 s, 30 s and 100 ms have 4, 8 and 4 tries: the waits double up to
+/// half the timeout (0.4, 0.5, 0.5 s; 0.4 to 12.8, 15 s; 50, 50, 50 ms).
 #[test]
 fn polls_when_due_reach_the_bound(rt: HostRuntime) {
     let alloc = rt.alloc();
@@ -121,7 +122,7 @@ fn polls_when_due_reach_the_bound(rt: HostRuntime) {
     );
 }
 
-/// Five seconds have five tries, at 0, 0.4, 1.2, 2.8 and 5.3 s.
+/// A timeout of five seconds has five tries, at 0, 0.4, 1.2, 2.8 and 5.3 s.
 #[test]
 fn five_seconds_have_five_tries(rt: HostRuntime) {
     assert_tries_each(
@@ -132,7 +133,7 @@ fn five_seconds_have_five_tries(rt: HostRuntime) {
     );
 }
 
-/// Moments that go back count as the latest one, and a poll a nanosecond before the due moment
+/// Moments that go backwards count as the latest one, and a poll a nanosecond before the due moment
 /// waits.
 #[test]
 fn moments_may_go_back(rt: HostRuntime) {
@@ -155,7 +156,7 @@ fn moments_may_go_back(rt: HostRuntime) {
     assert_replays(&rt, rt.alloc(), 1000 * MILLI, &polls, &answers, 3);
 }
 
-/// With a timeout of 1 ns, whose waits are zero, each of 1,000 polls at 0 tries, and one at 2 ns
+/// With a timeout of 1 ns, whose waits are zero, each of 1,000 polls at 0 is a try, and one at 2 ns
 /// fails.
 #[test]
 fn half_a_nanosecond_has_no_bound(rt: HostRuntime) {
@@ -173,7 +174,7 @@ fn half_a_nanosecond_has_no_bound(rt: HostRuntime) {
     assert_replays(&rt, rt.alloc(), 1, &polls, &answers, 2);
 }
 
-/// What would be due past the greatest moment is never due.
+/// A try that would be due after the greatest moment is never due.
 #[test]
 fn due_past_the_greatest_moment_is_never(rt: HostRuntime) {
     let polls = [
@@ -195,7 +196,7 @@ fn no_retry_fails_at_once(rt: HostRuntime) -> Result<(), Fail> {
     Ok(())
 }
 
-/// An opening that is under way is one try, however long.
+/// A pending attempt is one try, however long it takes.
 #[test]
 fn opening_under_way_is_one_try(rt: HostRuntime) {
     let polls = [
@@ -213,8 +214,9 @@ fn opening_under_way_is_one_try(rt: HostRuntime) {
     assert_replays(&rt, rt.alloc(), 1000 * MILLI, &polls, &answers, 1);
 }
 
-/// Asserts that at most so many openings are begun over 5,000 polls at moments that rise and jump
-/// back at will, each with an error. A step is how far the moments rise from one poll to the next.
+/// Asserts that at most `most` attempts are begun over 5,000 polls at moments that rise and jump
+/// back at random, each with an error. `step` is how far the moments rise from one poll to the
+/// next.
 fn assert_bounded(rt: &impl Abort, alloc: Global, timeout: u64, step: u64, most: u64) {
     let mut polls = Vec::new(alloc);
     let mut seed: u64 = 1;
@@ -233,7 +235,7 @@ fn assert_bounded(rt: &impl Abort, alloc: Global, timeout: u64, step: u64, most:
     assert!(rt; replayed.tries > 1);
 }
 
-/// 5,000 polls at moments that jump at will keep 4, 8 and 4.
+/// 5,000 polls at random moments make at most 4, 8 and 4 tries.
 #[test]
 fn jumping_moments_keep_the_bound(rt: HostRuntime) {
     assert_bounded(&rt, rt.alloc(), 1000 * MILLI, 7 * MILLI, 4);

@@ -1,11 +1,11 @@
-//! A clock that goes back at every second reading.
+//! A clock that goes backwards at every second reading.
 
 use crate::hostile::source::RandomSource;
 use bb8::{Clock, Moment};
 use std::sync::atomic::{AtomicU64, Ordering};
 
-/// A clock whose readings go on and back in turn, each by a span from its source that is at most
-/// `stride` nanoseconds: the first, third and so on go on from where the last of these was, and
+/// A clock whose readings alternately go forwards and backwards, each by a span from its source of
+/// at most `stride` nanoseconds. The first, third and so on advance from the previous of these;
 /// each other one is earlier than the one before it, unless that was 0.
 #[derive(Drop)]
 pub struct HostileClock {

@@ -2,7 +2,7 @@
 
 use crate::hostile::gauge::{Gauge, Token};
 
-/// A connection that is counted from its making to its drop, and while it is held.
+/// A connection that is counted until its drop, and while it is held.
 #[derive(Drop)]
 pub struct Counted {
     life: Token,
@@ -10,7 +10,7 @@ pub struct Counted {
 }
 
 impl Counted {
-    /// A connection of this gauge, which nobody holds.
+    /// Returns a connection of this gauge, which nobody holds.
     pub fn new(lives: &Gauge) -> Counted {
         Counted {
             life: lives.token(),
@@ -18,7 +18,7 @@ impl Counted {
         }
     }
 
-    /// Counts it as held by who got it. False where it was held already.
+    /// Counts it as held by the caller. Returns false if it was held already.
     pub fn hold(&mut self, holdings: &Gauge) -> bool {
         if self.held.is_some() {
             return false;

@@ -1,4 +1,4 @@
-//! A customizer that changes its answers at every call.
+//! A customizer whose results change at every call.
 
 use crate::board::Refused;
 use crate::hostile::connection::Counted;

@@ -1,4 +1,4 @@
-//! Counts of what was made and what was dropped.
+//! Counts what was made and what was dropped.
 
 use bb8::Memory;
 use std::alloc::Global;
@@ -12,19 +12,19 @@ struct Counts {
     dropped: AtomicU64,
 }
 
-/// Counts its tokens, as they are made and as they are dropped.
+/// Counts its tokens when they are made and when they are dropped.
 #[derive(Drop)]
 pub struct Gauge {
     counts: Arc<Counts, Global>,
 }
 
-/// One that its gauge counts until it is dropped.
+/// A token, which its gauge counts until it is dropped.
 pub struct Token {
     counts: Option<Arc<Counts, Global>>,
 }
 
 impl Gauge {
-    /// A gauge without tokens. It fails where memory is refused.
+    /// Returns a gauge without tokens. Returns `Memory` if memory is refused.
     pub fn new(alloc: Global) -> Result<Gauge, Memory> {
         let counts = Arc::new(
             alloc,
@@ -36,15 +36,14 @@ impl Gauge {
         Ok(Gauge { counts })
     }
 
-    /// The same gauge once more. It fails where there are more copies and tokens than can be
-    /// counted.
+    /// Returns a clone of the gauge. Returns `Memory` if there are too many clones and tokens to
+    /// count.
     pub fn try_clone(&self) -> Result<Gauge, Memory> {
         let counts = Arc::try_clone(&self.counts)?;
         Ok(Gauge { counts })
     }
 
-    /// One more token. Where there are more than can be counted it is counted neither as made nor
-    /// as dropped.
+    /// Makes a token. If there are too many to count, it is counted neither as made nor as dropped.
     pub fn token(&self) -> Token {
         match Arc::try_clone(&self.counts) {
             Ok(counts) => {
@@ -57,18 +56,18 @@ impl Gauge {
         }
     }
 
-    /// How many tokens were made.
+    /// Returns how many tokens were made.
     pub fn made(&self) -> u64 {
         self.counts.made.load(Ordering::SeqCst)
     }
 
-    /// How many tokens were dropped.
+    /// Returns how many tokens were dropped.
     pub fn dropped(&self) -> u64 {
         self.counts.dropped.load(Ordering::SeqCst)
     }
 
-    /// How many tokens there are, in a thread that alone makes and drops them. None where more were
-    /// dropped than made.
+    /// Returns how many tokens there are, if only the calling thread makes and drops them. None if
+    /// more were dropped than made.
     pub fn alive(&self) -> Option<u64> {
         self.made().checked_sub(self.dropped())
     }

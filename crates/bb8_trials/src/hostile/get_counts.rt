@@ -1,21 +1,21 @@
-//! What a thread was told of its gets, to be compared with what the pool tells.
+//! The results of a thread's gets, to be compared with the pool's statistics.
 
 use bb8::State;
 
-/// What a thread was told of its gets, and whether anything was wrong meanwhile.
+/// The results of a thread's gets, and whether anything was wrong.
 #[derive(Clone, Copy)]
 pub struct GetCounts {
     pub begun: u64,
     pub served: u64,
     pub timed_out: u64,
     pub cancelled: u64,
-    /// Connections that two held at a time, answers that no get of the pool may have, and figures
-    /// that break its bounds.
+    /// Connections with two holders at a time, results that no get of the pool may have, and states
+    /// out of bounds.
     pub wrong: u64,
 }
 
 impl GetCounts {
-    /// Nothing yet.
+    /// Returns empty counts.
     pub fn new() -> GetCounts {
         GetCounts {
             begun: 0,
@@ -26,7 +26,7 @@ impl GetCounts {
         }
     }
 
-    /// Adds what another one was told.
+    /// Adds other counts.
     pub fn add(&mut self, other: &GetCounts) {
         self.begun = self.begun.saturating_add(other.begun);
         self.served = self.served.saturating_add(other.served);

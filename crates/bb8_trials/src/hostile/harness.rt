@@ -1,4 +1,4 @@
-//! The parts of a pool, and the gauges of what it does with them.
+//! The user callbacks of a pool, and the gauges that count them.
 
 use crate::hostile::clock::HostileClock;
 use crate::hostile::connection::Counted;
@@ -31,14 +31,14 @@ pub type HostileDriver<R, L> = Driver<
     L,
 >;
 
-/// What the parts of one pool count.
+/// The gauges of one pool's callbacks.
 #[derive(Drop)]
 pub struct Gauges {
-    /// Connections, from their making to their drop.
+    /// Connections, until their drop.
     pub connections: Gauge,
     /// Connections that were served, until the manager is asked about them again.
     pub holdings: Gauge,
-    /// Openings, from `connect` on.
+    /// Attempts, from `connect` on.
     pub openings: Gauge,
     /// Preparations, from `on_acquire` on.
     pub preparations: Gauge,
@@ -46,7 +46,7 @@ pub struct Gauges {
     pub checks: Gauge,
     /// Errors, which the sink drops at once.
     pub errors: Gauge,
-    /// Managers, each of which a pool keeps as long as what its handles share.
+    /// Managers; a pool keeps one as long as the data that its handles share.
     pub managers: Gauge,
 }
 
@@ -63,7 +63,7 @@ impl Gauges {
         })
     }
 
-    /// Whether no opening, preparation or check goes on, and nobody holds a connection.
+    /// Whether no attempt, preparation or check is in progress, and nobody holds a connection.
     pub fn are_quiet(&self) -> bool {
         self.openings.alive() == Some(0)
             && self.preparations.alive() == Some(0)
@@ -71,8 +71,8 @@ impl Gauges {
             && self.holdings.alive() == Some(0)
     }
 
-    /// Whether no get of a pool that tells this is pending, they are quiet, and all connections
-    /// that were not dropped are in it, and idle.
+    /// Whether no get of a pool with this state is pending, the gauges are quiet, and all
+    /// connections that were not dropped are in the pool and idle.
     pub fn are_at_rest(&self, state: &State) -> bool {
         state.statistics.pending_gets() == 0
             && state.connections == state.idle_connections
@@ -80,27 +80,27 @@ impl Gauges {
             && self.are_quiet()
     }
 
-    /// Whether they are quiet, and each connection and each manager was dropped.
+    /// Whether the gauges are quiet, and each connection and each manager was dropped.
     pub fn are_empty(&self) -> bool {
         self.are_quiet() && self.connections.alive() == Some(0) && self.managers.alive() == Some(0)
     }
 }
 
-/// One source of answers, the gauges of the parts that it makes, and how hostile those are.
+/// One source of results, the gauges of the callbacks that it makes, and how hostile those are.
 #[derive(Drop)]
 pub struct Harness {
-    /// Where all answers come from, for a test to draw from as well.
+    /// The source of all results, from which a test may draw, too.
     pub source: RandomSource,
-    /// What the parts count.
+    /// The gauges of the callbacks.
     pub gauges: Gauges,
-    /// Of how many connections that the manager is asked about one is broken; none where it is 0.
+    /// One of so many connections is found broken; none if it is 0.
     pub one_in: u64,
-    /// By how many nanoseconds at most the clock goes on, and back.
+    /// The greatest step of the clock, forwards and backwards, in nanoseconds.
     pub stride: u64,
 }
 
 impl Harness {
-    /// A harness whose answers this seed determines. It fails where memory is refused.
+    /// Returns a harness whose results this seed determines. Returns `Memory` if memory is refused.
     pub fn new(alloc: Global, seed: u64, one_in: u64, stride: u64) -> Result<Harness, Memory> {
         Ok(Harness {
             source: RandomSource::new(alloc, seed)?,
@@ -110,7 +110,7 @@ impl Harness {
         })
     }
 
-    /// A manager that answers from the source and counts in the gauges.
+    /// Returns a manager that draws from the source and counts in the gauges.
     pub fn manager(&self) -> Result<HostileManager, Memory> {
         Ok(HostileManager {
             source: self.source.try_clone()?,
@@ -122,7 +122,7 @@ impl Harness {
         })
     }
 
-    /// A customizer that answers from the source and counts in the gauges.
+    /// Returns a customizer that draws from the source and counts in the gauges.
     pub fn customizer(&self) -> Result<HostileCustomizer, Memory> {
         Ok(HostileCustomizer {
             source: self.source.try_clone()?,
@@ -130,14 +130,14 @@ impl Harness {
         })
     }
 
-    /// A sink that counts in the gauges.
+    /// Returns a sink that counts in the gauges.
     pub fn sink(&self) -> Result<HostileSink, Memory> {
         Ok(HostileSink {
             errors: self.gauges.errors.try_clone()?,
         })
     }
 
-    /// A clock that begins at 0 and whose spans come from the source.
+    /// Returns a clock that begins at 0 and whose steps come from the source.
     pub fn clock(&self) -> Result<HostileClock, Memory> {
         Ok(HostileClock {
             source: self.source.try_clone()?,
@@ -147,7 +147,7 @@ impl Harness {
         })
     }
 
-    /// A connection that is counted, for an adding.
+    /// Returns a counted connection, to be added to a pool.
     pub fn connection(&self) -> Counted {
         Counted::new(&self.gauges.connections)
     }

@@ -1,4 +1,4 @@
-//! A manager that changes its answers at every call.
+//! A manager whose results change at every call.
 
 use crate::board::Refused;
 use crate::hostile::connection::Counted;
@@ -7,10 +7,9 @@ use crate::hostile::source::RandomSource;
 use bb8::{ManageConnection, Moment};
 use futures::task::Poll;
 
-/// Opens, checks and breaks connections as its source says: of an opening and of a check each poll
-/// is pending in half of the cases, and fails in a quarter or an eighth of them, and of `one_in`
-/// connections that it is asked about one is broken. Nothing that it answers depends on the
-/// connection or on the moment.
+/// Opens, checks and breaks connections as its source says. Each poll of an attempt or a check is
+/// pending in half of the cases, and fails in a quarter or an eighth of them, respectively; one of
+/// `one_in` connections is broken. No result depends on the connection or on the moment.
 #[derive(Drop)]
 pub struct HostileManager {
     pub(crate) source: RandomSource,
@@ -59,7 +58,7 @@ impl ManageConnection for HostileManager {
         self.source.poll()
     }
 
-    /// Who asks has the connection back from whoever held it.
+    /// Counts the connection as no longer held, since it was returned.
     fn has_broken(&self, connection: &mut Counted) -> bool {
         connection.let_go();
         self.one_in != 0 && self.source.below(self.one_in) == 0

@@ -12,28 +12,29 @@ use std::sync::atomic::{AtomicU64, Ordering};
 /// odd.
 const STRIDE: u64 = 0x9e37_79b9_7f4a_7c15;
 
-/// A row of numbers that its seed determines, by the rule `splitmix64`. Copies draw from the one
-/// row: in one thread it is the same each time, and across threads the schedule says who has which
-/// number. It is no source of secrets.
+/// A sequence of numbers that its seed determines, by the rule `splitmix64`. Clones draw from the
+/// same sequence: in one thread it is the same in each run, and across threads the schedule decides
+/// who draws which number. Not for secrets.
 #[derive(Drop)]
 pub struct RandomSource {
     state: Arc<AtomicU64, Global>,
 }
 
 impl RandomSource {
-    /// The row of this seed, from its beginning. It fails where memory is refused.
+    /// Returns the sequence of this seed, from its beginning. Returns `Memory` if memory is
+    /// refused.
     pub fn new(alloc: Global, seed: u64) -> Result<RandomSource, Memory> {
         let state = Arc::new(alloc, AtomicU64::new(seed))?;
         Ok(RandomSource { state })
     }
 
-    /// The same row once more. It fails where there are more copies than can be counted.
+    /// Returns a clone of the sequence. Returns `Memory` if there are too many clones to count.
     pub fn try_clone(&self) -> Result<RandomSource, Memory> {
         let state = Arc::try_clone(&self.state)?;
         Ok(RandomSource { state })
     }
 
-    /// The next number of the row: any of 64 bits.
+    /// Returns the next number of the sequence, of 64 bits.
     pub fn next(&self) -> u64 {
         let state = self.state.fetch_add(STRIDE, Ordering::SeqCst);
         let first = state.wrapping_add(STRIDE);
@@ -42,8 +43,7 @@ impl RandomSource {
         third ^ (third >> 31)
     }
 
-    /// The next number of the row, brought below `bound`; 0 where that is 0, and then none is
-    /// drawn.
+    /// Returns the next number, reduced below `bound`. Returns 0 and draws none if `bound` is 0.
     pub fn below(&self, bound: u64) -> u64 {
         if bound == 0 {
             return 0;
@@ -51,8 +51,8 @@ impl RandomSource {
         self.next() % bound
     }
 
-    /// What a poll of a check or a preparation answers: pending in half of the cases, and an error
-    /// in an eighth of them.
+    /// Returns the result of a poll of a check or a preparation: pending in half of the cases, an
+    /// error in an eighth of them.
     pub(crate) fn poll(&self) -> Poll<Result<(), Refused>> {
         match self.below(8) {
             0..=2 => Poll::Ready(Ok(())),
@@ -61,7 +61,8 @@ impl RandomSource {
         }
     }
 
-    /// An index into a row of this length. None where it is empty, and then no number is drawn.
+    /// Returns an index into a list of this length. Returns None and draws no number if it is
+    /// empty.
     pub fn index(&self, length: usize) -> Option<usize>
         ensures { IfSome result (λ index. index < length) }
     {

@@ -1,4 +1,4 @@
-//! The clock that a pool reads.
+//! The clock of a pool.
 ghost use Rattle.std.specs.Prelude.{⊤};
 ghost use Rattle.bb8_types.specs.declared.api.moments.Moment.{Moment as MomentOf};
 
@@ -7,44 +7,43 @@ use std::alloc::Global;
 use std::sync::Arc;
 use std::sync::atomic::{AtomicU64, Ordering};
 
-/// A clock that a pool reads: how far a deadline, a lifetime or a time of idleness has come is what
-/// this clock says.
+/// The clock that a pool reads. Deadlines, lifetimes and idle times are measured by it.
 ///
-/// Upstream reads the machine's clock. A clock may be set back, as a pool takes a moment earlier
-/// than one that it has seen already for that one.
+/// bb8 reads the machine's clock. A clock may go back: a pool treats a moment earlier than one it
+/// has seen as the later one.
 pub trait Clock: Send + Sync + Drop + 'static {
-    // Holds of a clock and each moment that it may tell. The implementer's choice; by default it
-    // may tell any.
+    // Relates a clock to each moment that it may return. The implementer chooses it; by default any
+    // moment.
     ghost tells: { Self → MomentOf → Type 0 } = { λ _ _. ⊤ };
 
-    /// The moment that it is now, in nanoseconds from a zero of the clock's own choice.
+    /// Returns the current moment, in nanoseconds from a zero that the clock chooses.
     fn now(&self) -> Moment
         ensures { tells self.now result };
 }
 
-/// A clock that stands still until it is set, for tests and for programs that bring their own time.
-/// Threads share it: a copy by `try_clone` tells, from then on, whatever moment any of the copies
-/// was set to last.
+/// A clock that stands still until it is set, for tests and for programs with a time of their own.
+/// Copies made by `try_clone` share the moment, also between threads: each returns what was set
+/// last on any of them.
 #[derive(Drop)]
 pub struct SetClock {
     nanoseconds: Arc<AtomicU64, Global>,
 }
 
 impl SetClock {
-    /// A clock that tells this moment until it is set. It fails where memory is refused.
+    /// Returns a clock that stands at this moment until it is set. Fails if memory is refused.
     pub fn new(alloc: Global, moment: Moment) -> Result<SetClock, Memory> {
         let nanoseconds = Arc::new(alloc, AtomicU64::new(moment.0))?;
         Ok(SetClock { nanoseconds })
     }
 
-    /// The same clock once more, for another thread or pool; it takes no memory. It fails where
-    /// there are more copies than can be counted.
+    /// Returns another handle to the same clock, for another thread or pool. It takes no memory.
+    /// Fails if there are more copies than can be counted.
     pub fn try_clone(&self) -> Result<SetClock, Memory> {
         let nanoseconds = Arc::try_clone(&self.nanoseconds)?;
         Ok(SetClock { nanoseconds })
     }
 
-    /// From now on the clock and all its copies tell this moment. It may be an earlier one.
+    /// Sets the clock and all its copies to this moment, which may be an earlier one.
     pub fn set(&self, moment: Moment) {
         self.nanoseconds.store(moment.0, Ordering::SeqCst);
     }

@@ -1,4 +1,4 @@
-//! The errors that a user of the pool meets.
+//! The errors that callers of a pool can get.
 ghost use Rattle.std.specs.Prelude.{◌≡◌, Some, codes, ⊤};
 ghost use Rattle.bb8_types.specs.Errors.{run_error_text, run_error_eq, add_error_text, add_error_eq};
 ghost use Rattle.bb8_types.specs.ErrorLaws.{run_error_eq_partial_equivalence, run_error_eq_equivalence, add_error_eq_partial_equivalence, add_error_eq_equivalence};
@@ -8,8 +8,7 @@ use std::alloc::{AllocError, AllocFailed};
 use std::error::Error;
 use std::fmt;
 
-/// Memory was refused. It prints as `RunError::Memory` does. Upstream aborts where no memory is
-/// left.
+/// Memory was refused. It prints as `RunError::Memory` does. bb8 aborts if no memory is left.
 #[derive(Clone, Copy, Debug, PartialEq, Eq)]
 pub struct Memory;
 
@@ -39,20 +38,19 @@ impl From<AllocError> for Memory {
     }
 }
 
-/// Why a get or the building of a pool failed.
+/// Why a `get` or `build` failed.
 ///
-/// Two are equal where they are of the same case and, of two `User`, where the manager's errors are
-/// equal.
+/// Two errors are equal if they are of the same case and, if both are `User`, the manager's errors
+/// are equal.
 #[derive(Debug, Drop, Clone)]
 pub enum RunError<E> {
-    /// The manager's or the customizer's own error, which prints as it does. As upstream.
+    /// The error of the manager or the customizer; it prints as that error does. As in bb8.
     User(E),
-    /// The get was not served within `connection_timeout`. As upstream.
+    /// The get was not served within `connection_timeout`. As in bb8.
     TimedOut,
-    /// Memory was refused. Upstream aborts where no memory is left.
+    /// Memory was refused. bb8 aborts if no memory is left.
     Memory,
-    /// The pool has no number left for another get: each of the 18,446,744,073,709,551,615 was
-    /// given.
+    /// The pool has no number left for another get: it has given all 18,446,744,073,709,551,615.
     Exhausted,
 }
 
@@ -74,7 +72,7 @@ impl<E: Error> Error for RunError<E> {}
 impl<E> From<E> for RunError<E> {
     ghost from_gives = { λ error run_error. run_error ≡ User error };
 
-    /// The manager's error as `User`, so that `?` passes it on. As upstream, which asks for an
+    /// Wraps the manager's error in `User`, so that `?` passes it on. As in bb8, which requires an
     /// `Error`.
     fn from(error: E) -> Self {
         RunError::User(error)
@@ -101,20 +99,20 @@ impl<E: Eq> Eq for RunError<E> {
     ghost laws = { run_error_eq_equivalence E.Eq.laws };
 }
 
-/// Why a pool refused a connection that was to be added. Each case gives the connection back.
+/// Why a pool refused a connection passed to `add`. Each case contains the connection.
 ///
-/// Two are equal where they are of the same case and the connections are equal. It prints whatever
-/// the connection's type is, also where that has no `Display`: our own, as upstream asks for a
-/// connection that is an error.
+/// Two errors are equal if they are of the same case and the connections are equal. Unlike in bb8,
+/// which requires a connection that is an error, it prints for every type of connection, `Display`
+/// or not.
 #[derive(Debug, Drop, Clone)]
 pub enum AddError<C> {
-    /// The connection was broken, as the manager's `has_broken` says. It is looked at first. As
-    /// upstream.
+    /// The manager's `has_broken` reported the connection as broken. This is checked first. As in
+    /// bb8.
     Broken(C),
-    /// Connections and open approvals together were `max_size` already. As upstream.
+    /// Connections and open approvals together were `max_size` already. As in bb8.
     NoCapacity(C),
-    /// There was no memory for the connection's place, or no number left for it. Upstream aborts
-    /// where no memory is left.
+    /// There was no memory for the connection's table entry, or no number left for it. bb8 aborts
+    /// if no memory is left.
     Withheld(C),
 }
 

@@ -1,41 +1,41 @@
-//! What a pool tells of itself.
+//! The statistics of a pool.
 ghost use Rattle.std.specs.Prelude.{◌≡◌, ◌+◌, ◌≤◌};
 
 use std::time::Duration;
 
-/// How often each thing happened to a pool. As upstream, but for `get_cancelled`,
-/// `connections_closed_retired` and `connections_detached`, which are our own.
+/// Counts of what happened to a pool. As in bb8; `get_cancelled`, `connections_closed_retired` and
+/// `connections_detached` are additions.
 #[derive(Clone, Copy, Debug, PartialEq, Eq)]
 pub struct Statistics {
     /// Gets that began.
     pub get_started: u64,
-    /// Gets that were served without ever having waited.
+    /// Gets that were served without having waited.
     pub get_direct: u64,
-    /// Gets that were served after they had waited.
+    /// Gets that were served after a wait.
     pub get_waited: u64,
     /// Gets that timed out.
     pub get_timed_out: u64,
     /// Gets that were cancelled.
     pub get_cancelled: u64,
-    /// How long the gets that were served or timed out had waited, from the first wait to the
-    /// answer: each in whole microseconds, and the sum in u64 microseconds, where it stays at the
-    /// greatest.
+    /// The sum of all waits of gets that were served or timed out, from the first wait to the
+    /// result. Each is rounded down to microseconds; the sum stops at the greatest u64 of
+    /// microseconds.
     pub get_wait_time: Duration,
-    /// Connections that were opened for an approval.
+    /// Connections opened for an approval.
     pub connections_created: u64,
-    /// Connections that were closed because they were broken.
+    /// Connections closed because they were broken.
     pub connections_closed_broken: u64,
-    /// Connections that were closed because their check had failed.
+    /// Connections closed because their check failed.
     pub connections_closed_invalid: u64,
-    /// Connections that were closed because of `max_lifetime`, and were not retired. One that was
-    /// idle for the `idle_timeout`, too, counts here alone.
+    /// Connections closed because of `max_lifetime`, except retired ones. One that also exceeded
+    /// `idle_timeout` counts here alone.
     pub connections_closed_max_lifetime: u64,
-    /// Connections that were closed because of `idle_timeout`.
+    /// Connections closed because of `idle_timeout`.
     pub connections_closed_idle_timeout: u64,
-    /// Connections that were closed because they were retired. One that had lived too long, too,
-    /// counts here alone.
+    /// Connections closed because they were retired. One that also exceeded `max_lifetime` counts
+    /// here alone.
     pub connections_closed_retired: u64,
-    /// Connections that left the pool for good.
+    /// Connections that were detached from the pool.
     pub connections_detached: u64,
     pub ghost answered_began: { get_direct + get_waited + get_timed_out + get_cancelled ≤ get_started },
 }
@@ -46,7 +46,7 @@ impl Default for Statistics {
 
     ghost is_default = { λ statistics. counts_of statistics ≡ no_counts };
 
-    /// Nothing happened yet.
+    /// Returns all counts at 0.
     fn default() -> Self {
         Statistics {
             get_started: 0,
@@ -67,15 +67,15 @@ impl Default for Statistics {
 }
 
 impl Statistics {
-    /// Gets that were served or timed out. As upstream.
+    /// Returns the count of gets that were served or timed out. As in bb8.
     pub fn completed_gets(&self) -> u64
         ensures { result ≡ self.now.get_direct + self.now.get_waited + self.now.get_timed_out }
     {
         self.get_direct + self.get_waited + self.get_timed_out
     }
 
-    /// Gets that began and were neither served nor timed out nor cancelled. As upstream, but that
-    /// cancelled ones do not count.
+    /// Returns the count of gets that began and were neither served nor timed out nor cancelled. As
+    /// in bb8, where cancelled ones count as pending.
     pub fn pending_gets(&self) -> u64
         ensures { result
             + (self.now.get_direct + self.now.get_waited + self.now.get_timed_out)
@@ -85,13 +85,13 @@ impl Statistics {
     }
 }
 
-/// What a pool tells of itself. As upstream.
+/// A snapshot of a pool's size and statistics. As in bb8.
 #[derive(Clone, Copy, Debug, PartialEq, Eq)]
 pub struct State {
-    /// Connections that are idle or out.
+    /// Idle plus checked-out connections. Connection attempts in progress are not included.
     pub connections: u32,
-    /// Connections that are idle.
+    /// Idle connections.
     pub idle_connections: u32,
-    /// How often each thing happened.
+    /// Counts of what happened.
     pub statistics: Statistics,
 }

@@ -1,5 +1,5 @@
-//! What a runner answers for ids: strange ones, those of jobs that have not ended, and those whose
-//! outcome was taken.
+//! The results of a runner for ids: unknown ones, those of jobs that have not ended, and those
+//! whose outcome was taken.
 
 use super::came_to;
 use crate::trial::{Bench, CountRunner, RunnerTrial, SlotPool, slots, try_runner};
@@ -30,7 +30,7 @@ impl<R: Runtime + Abort> RunnerTrial<R> for Takes {
         assert!(&rt; bench.runner.take(0).is_none() && bench.runner.phase(0).is_none());
         assert!(&rt; bench.runner.phase(1) == Some(Phase::Ended));
         assert!(&rt; came_to(bench.runner.take(1), 1) && bench.runner.take(1).is_none());
-        // an id that was taken is not given again
+        // an id whose outcome was taken is not used again
         assert!(&rt; bench.submits(1, 2) && bench.runner.running() == 0);
     }
 }
@@ -40,7 +40,7 @@ fn takes_each_outcome_once(rt: HostRuntime) {
     assert!(&rt; try_runner(rt, slots(1), Takes).is_some());
 }
 
-/// While a job runs its outcome is not told, and its phase says so.
+/// While a job runs, its outcome is not returned, and its phase says so.
 #[derive(Drop)]
 struct AsksEarly;
 

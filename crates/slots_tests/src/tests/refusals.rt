@@ -1,5 +1,5 @@
-//! A run in which any one request for memory is refused, or all from any on, as `gate/refusals/run`
-//! makes them. It holds with refusals and without.
+//! A run in which one request for memory is refused, or all from one on, as `gate/refusals/run`
+//! makes them. It holds with and without refusals.
 
 use super::{came_to, lacked_memory};
 use crate::trial::{Bench, Count, CountRunner, RunnerTrial, SlotPool, slots, try_runner};
@@ -7,8 +7,8 @@ use bb8::{PoolCalls, PoolParts, Runtime};
 use slots::{Phase, RunnerCalls};
 use std::process::Abort;
 
-/// Five jobs on two slots. One that was taken on ends with what it comes to, or for want of memory,
-/// or goes on; none passes the bound, and no guard is lost.
+/// Five jobs on two slots. A submitted job ends with its result, ends for lack of memory, or goes
+/// on. The bound is never exceeded, and no guard is lost.
 #[derive(Drop)]
 struct RefusedMemory;
 

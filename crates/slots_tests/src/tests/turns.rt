@@ -1,4 +1,4 @@
-//! Turns of runners: how many jobs end and run at each, and what the pool tells.
+//! Turns of runners: how many jobs end and run at each, and the pool's state.
 
 use super::{came_to, timed_out};
 use crate::trial::{Bench, CountRunner, RunnerTrial, SlotPool, slots, try_runner};
@@ -52,7 +52,7 @@ fn five_jobs_on_two_slots(rt: HostRuntime) {
     assert!(&rt; try_runner(rt, slots(2), FiveJobs).is_some());
 }
 
-/// A job on a pool that is to have a connection idle.
+/// A job on a pool with a `min_idle`.
 #[derive(Drop)]
 struct OpensFirst;
 
@@ -66,14 +66,14 @@ impl<R: Runtime + Abort> RunnerTrial<R> for OpensFirst {
     }
 }
 
-/// The job's get finds idle what the driver has opened in the same turn: the driver's turn comes
-/// first.
+/// The job's get finds the connection that the driver has opened in the same turn: the driver's
+/// turn comes first.
 #[test]
 fn driver_turns_before_the_jobs(rt: HostRuntime) {
     assert!(&rt; try_runner(rt, slots(1).min_idle(Some(1)), OpensFirst).is_some());
 }
 
-/// A job whose get finds the one slot lent for longer than it may wait.
+/// A job whose get finds the only slot checked out for longer than it may wait.
 #[derive(Drop)]
 struct TimesOut;
 

@@ -1,62 +1,61 @@
-//! What the steps of a pool answer.
+//! The results of the steps of a pool.
 
 use crate::bb8_tables::keys::{GetKey, Key};
 use crate::bb8_types::api::Moment;
 use crate::bb8_types::grants::Grant;
 
-/// The step does not fit, as the state knows no such get or approval, or no handle is alive;
-/// nothing has changed.
+/// The step does not fit: the state knows no such get or approval, or no handle is alive. Nothing
+/// has changed.
 #[derive(Clone, Copy, Debug)]
 pub struct Unfit;
 
-/// What the begin of a get answers.
+/// The result of `begin`.
 #[derive(Clone, Copy, Debug)]
 pub enum BeginAnswer {
-    /// The get began.
+    /// The get has begun.
     Begun(GetKey),
-    /// The most gets so far are alive, and memory for one more was refused.
+    /// As many gets are alive as ever were, and memory for one more was refused.
     Memory,
     /// No number is left: 18,446,744,073,709,551,615 is never given.
     Exhausted,
 }
 
-/// What the try of a get answers.
+/// The result of `try_get`.
 pub enum TryAnswer<C> {
-    /// The get ended with this connection, which a guard holds from now on, and this was granted.
+    /// The get ended with this connection, which a guard holds from now on; the grant.
     Served(Key, C, Grant),
-    /// The get holds this connection, which is to be checked, and this was granted.
+    /// The get holds this connection, which must be checked; the grant.
     Taken(Key, C, Grant),
-    /// The get waits until it is notified, and this was granted.
+    /// The get waits until it is notified; the grant.
     Waiting(Grant),
 }
 
-/// What a get comes to that begins and tries.
+/// The result of `start`: of a get that begins and tries.
 pub enum Started<C> {
-    /// The get began, and its first try told this. The place of the key of one that was served is
-    /// 0.
+    /// The get has begun, and this is the result of its first try. If it was served, the index in
+    /// its key is 0.
     Tried(GetKey, TryAnswer<C>),
-    /// The most gets so far are alive, and memory for one more was refused.
+    /// As many gets are alive as ever were, and memory for one more was refused.
     Memory,
     /// No number is left.
     Exhausted,
 }
 
-/// What a check that was passed answers.
+/// The result of `checked_ok`.
 #[derive(Clone, Copy, Debug)]
 pub enum CheckedOkAnswer {
     /// The get ended with the connection of this key, which a guard holds from now on.
     Served(Key),
 }
 
-/// What a check that failed answers.
+/// The result of `checked_err`.
 pub enum CheckedErrAnswer<C> {
-    /// The connection of this key is closed and handed back; this was granted; the get that was
-    /// notified.
+    /// The connection of this key is closed, for the caller to drop; the grant; the notified get.
     Closed(Key, C, Grant, Option<GetKey>),
 }
 
 impl<C> CheckedErrAnswer<C> {
-    /// The get that was notified, if one was.
+    /// Returns the notified get, if there is one.
     #[inline]
     pub fn notified(&self) -> Option<GetKey> {
         match self {
@@ -73,23 +72,23 @@ pub struct AtOnce<C> {
     pub key: Key,
     /// The connection, which a guard holds from now on.
     pub conn: C,
-    /// What was granted then.
+    /// The grant of that step.
     pub grant: Grant,
 }
 
-/// What the giving up of a get answers.
+/// The result of `give_up` and `give_back`.
 pub enum GiveUpAnswer<C> {
-    /// The get ended, which held nothing; the get that was notified in its place.
+    /// The get ended; it held nothing. The get that was notified instead.
     GaveUp(Option<GetKey>),
-    /// The get ended, and its connection of this key is idle; the get that was notified.
+    /// The get ended, and its connection, with this key, is idle; the notified get.
     Kept(Key, Option<GetKey>),
-    /// The get ended, and its connection of this key is closed and handed back; this was granted;
-    /// the get that was notified.
+    /// The get ended, and its connection, with this key, is closed, for the caller to drop; the
+    /// grant; the notified get.
     Closed(Key, C, Grant, Option<GetKey>),
 }
 
 impl<C> GiveUpAnswer<C> {
-    /// The get that was notified, if one was.
+    /// Returns the notified get, if there is one.
     #[inline]
     pub fn notified(&self) -> Option<GetKey> {
         match self {
@@ -100,23 +99,23 @@ impl<C> GiveUpAnswer<C> {
     }
 }
 
-/// What the making of a handle answers.
+/// The result of `join`.
 #[derive(Clone, Copy, Debug)]
 pub enum JoinAnswer {
-    /// There is one handle more.
+    /// There is one more handle.
     Joined,
-    /// As many handles are alive as may be: 4,294,967,295.
+    /// The maximum of 4,294,967,295 handles is alive.
     Exhausted,
 }
 
-/// What the drop of a handle answers.
+/// The result of `leave` and `close`.
 #[derive(Clone, Copy, Debug)]
 pub enum LeaveAnswer {
-    /// There is one handle less; so many idle connections ended with the last one.
+    /// A handle was dropped, or all were; this many idle connections ended with the last one.
     Left(u32),
 }
 
-/// What a look at the pool answers.
+/// The result of `look`.
 #[derive(Clone, Copy, Debug)]
 pub struct Looked {
     /// The effective moment: the greatest moment so far.
@@ -125,15 +124,15 @@ pub struct Looked {
     pub alive: bool,
 }
 
-/// What a guard's leaving with its connection answers.
+/// The result of `detach`.
 #[derive(Clone, Copy, Debug)]
 pub enum DetachAnswer {
-    /// The connection is the pool's no more; this was granted; the get that was notified.
+    /// The connection no longer belongs to the pool; the grant; the notified get.
     Detached(Grant, Option<GetKey>),
 }
 
 impl DetachAnswer {
-    /// The get that was notified, if one was.
+    /// Returns the notified get, if there is one.
     #[inline]
     pub fn notified(&self) -> Option<GetKey> {
         match self {
@@ -142,16 +141,16 @@ impl DetachAnswer {
     }
 }
 
-/// What the return of a connection answers.
+/// The result of `put_back`.
 pub enum PutBackAnswer<C> {
-    /// The connection is idle; the get that was notified.
+    /// The connection is idle; the notified get.
     Kept(Option<GetKey>),
-    /// The connection is closed and handed back; this was granted; the get that was notified.
+    /// The connection is closed, for the caller to drop; the grant; the notified get.
     Closed(C, Grant, Option<GetKey>),
 }
 
 impl<C> PutBackAnswer<C> {
-    /// The get that was notified, if one was.
+    /// Returns the notified get, if there is one.
     #[inline]
     pub fn notified(&self) -> Option<GetKey> {
         match self {
@@ -160,25 +159,26 @@ impl<C> PutBackAnswer<C> {
     }
 }
 
-/// What the claim of an approval answers.
+/// The result of `claim`.
 #[derive(Clone, Copy, Debug)]
 pub enum ClaimAnswer {
-    /// The approval that was claimed, where one was unclaimed.
+    /// The approval that was claimed, if one was unclaimed.
     Claimed(Option<Key>),
     /// No handle is alive.
     Ended,
 }
 
-/// What the opening of a connection answers.
+/// The result of `opened`.
 pub enum OpenedAnswer<C> {
-    /// The connection is idle; the get that was notified.
+    /// The connection is idle; the notified get.
     Entered(Option<GetKey>),
-    /// No handle is alive: the approval ended, and the connection is handed back.
+    /// The approval was retired, or no handle is alive. It ended; the connection, for the caller to
+    /// drop.
     Late(C),
 }
 
 impl<C> OpenedAnswer<C> {
-    /// The get that was notified, if one was.
+    /// Returns the notified get, if there is one.
     #[inline]
     pub fn notified(&self) -> Option<GetKey> {
         match self {
@@ -188,47 +188,46 @@ impl<C> OpenedAnswer<C> {
     }
 }
 
-/// What the failed opening of a connection answers.
+/// The result of `failed`.
 #[derive(Clone, Copy, Debug)]
 pub enum FailedAnswer {
-    /// The approval ended, and makes room.
+    /// The approval ended, and its slot is free.
     GivenBack,
 }
 
-/// What a reap answers.
+/// The result of `reap` and `retire`.
 #[derive(Clone, Copy, Debug)]
 pub enum ReapAnswer {
-    /// Connections ended.
+    /// Connections were closed.
     Reaped {
-        /// How many.
+        /// Their count.
         closed: u32,
-        /// How many of them had been idle for the `idle_timeout`, and had not lived for the
-        /// `max_lifetime`.
+        /// The count of those that exceeded `idle_timeout` but not `max_lifetime`.
         by_idle: u32,
-        /// How many of them had lived for the `max_lifetime`.
+        /// The count of those that exceeded `max_lifetime`.
         by_life: u32,
-        /// What was granted then.
+        /// The grant of that step.
         grant: Grant,
     },
     /// No handle is alive.
     Ended,
 }
 
-/// What the adding of a connection answers. Every refusal hands the connection back.
+/// The result of `add`. Each refusal contains the connection.
 pub enum AddAnswer<C> {
-    /// The connection is idle under this key; the get that was notified.
+    /// The connection is idle, with this key; the notified get.
     Added(Key, Option<GetKey>),
     /// The connection is broken.
     Broken(C),
-    /// Connections and open approvals are as many as `max_size`.
+    /// Connections and open approvals together are `max_size` already.
     NoCapacity(C),
-    /// No number is left, or the connections and open approvals are as many as ever and memory for
-    /// one more was refused.
+    /// No number is left; or there are as many connections and open approvals as ever were, and
+    /// memory for one more was refused.
     Withheld(C),
 }
 
 impl<C> AddAnswer<C> {
-    /// The get that was notified, if one was.
+    /// Returns the notified get, if there is one.
     #[inline]
     pub fn notified(&self) -> Option<GetKey> {
         match self {

@@ -1,4 +1,4 @@
-//! Replays of lists of events, by plain numbers.
+//! Replays of lists of events, with plain numbers.
 
 mod events;
 mod hints;
@@ -18,7 +18,7 @@ pub use events::{Act, Answer, Event};
 use crate::kit::Vec;
 use crate::kit::Global;
 
-/// The number of the get that a step notified.
+/// Returns the number of the notified get.
 fn number_of(notified: Option<GetKey>) -> Option<u64> {
     match notified {
         None => None,
@@ -26,16 +26,16 @@ fn number_of(notified: Option<GetKey>) -> Option<u64> {
     }
 }
 
-/// Where the records and the gets of a replay stood last. It spares searches, and changes no
-/// answer.
+/// The last known table indexes of the records and gets of a replay. They save searches, and change
+/// no result.
 pub struct Known {
     records: Hints,
     gets: Hints,
 }
 
 impl Known {
-    /// Nothing is known yet, of a pool whose connections and approvals have numbers from
-    /// `first_number` on, and its gets from `first_get` on. It takes no memory.
+    /// Returns an empty map, for a pool whose connections and approvals are numbered from
+    /// `first_number` on, and its gets from `first_get` on. It allocates nothing.
     pub fn new(alloc: Global, first_number: u64, first_get: u64) -> Self {
         Known {
             records: Hints::new(alloc, first_number),
@@ -43,7 +43,7 @@ impl Known {
         }
     }
 
-    /// Where the record or the get stands that an event names, as far as it is known.
+    /// Returns the last known index of the record or get that an event names.
     fn place(&self, act: Act) -> usize {
         match act {
             Act::Try(get) | Act::CheckedOk(get) => self.gets.place(get),
@@ -61,7 +61,7 @@ impl Known {
         }
     }
 
-    /// Where the connection stands that a get holds, as far as it is known.
+    /// Returns the last known index of the connection that a get holds.
     fn hint(&self, held: Option<u64>) -> usize {
         match held {
             None => 0,
@@ -70,12 +70,13 @@ impl Known {
     }
 }
 
-/// Whether the event fits the state. A connection that it hands in does not matter.
+/// Returns whether an event fits the state. This does not depend on the connection that the event
+/// hands in.
 pub fn fits<C>(pool: &PoolInternals<C>, event: Event) -> bool {
     fits_act(pool, event.act)
 }
 
-/// As `fits`, by the event alone.
+/// As `fits`; the moment of the event does not matter.
 fn fits_act<C>(pool: &PoolInternals<C>, act: Act) -> bool {
     let place = 0;
     match act {
@@ -128,7 +129,7 @@ fn checked_ok(pool: &mut PoolInternals<u64>, known: &Known, at: Moment, get: Get
     told_of_checked_ok(pool.checked_ok(at, get, hint), next)
 }
 
-/// What a check that passed answers, where this number is next.
+/// Returns the replay's result of a passed check. `next` is the next number.
 fn told_of_checked_ok(answer: Result<CheckedOkAnswer, Unfit>, next: u64) -> Answer {
     match answer {
         Ok(CheckedOkAnswer::Served(key)) => Answer::Served(key.number, Grant::of_nothing(next)),
@@ -147,7 +148,7 @@ fn checked_err(
     told_of_checked_err(pool.checked_err(at, get, held.unwrap_or(0), broken, known.hint(held)))
 }
 
-/// What a check that failed answers.
+/// Returns the replay's result of a failed check.
 fn told_of_checked_err(answer: Result<CheckedErrAnswer<u64>, u64>) -> Answer {
     match answer {
         Ok(CheckedErrAnswer::Closed(key, _, grant, notified)) => {
@@ -157,7 +158,7 @@ fn told_of_checked_err(answer: Result<CheckedErrAnswer<u64>, u64>) -> Answer {
     }
 }
 
-/// What a give-up answers.
+/// Returns the replay's result of a get that timed out or was cancelled.
 fn told_of_give_up<U>(answer: Result<GiveUpAnswer<u64>, U>) -> Answer {
     match answer {
         Ok(GiveUpAnswer::GaveUp(notified)) => Answer::GaveUp(number_of(notified)),
@@ -169,7 +170,8 @@ fn told_of_give_up<U>(answer: Result<GiveUpAnswer<u64>, U>) -> Answer {
     }
 }
 
-/// The connection that the get holds, which is its number, is handed in.
+/// Ends a get that is not served. If it holds a connection, which in a replay is its number, that
+/// is handed in.
 fn give_up(
     pool: &mut PoolInternals<u64>,
     known: &Known,
@@ -201,7 +203,7 @@ fn detach(pool: &mut PoolInternals<u64>, at: Moment, key: Key) -> Answer {
     told_of_detach(pool.detach(at, key), key.number)
 }
 
-/// What a leaving of the connection of this number answers.
+/// Returns the replay's result of a detach of this number.
 fn told_of_detach(answer: Result<DetachAnswer, Unfit>, number: u64) -> Answer {
     match answer {
         Ok(DetachAnswer::Detached(grant, notified)) => {
@@ -234,7 +236,7 @@ fn failed(pool: &mut PoolInternals<u64>, at: Moment, key: Key) -> Answer {
     told_of_failed(pool.failed(at, key))
 }
 
-/// What a failed opening answers.
+/// Returns the replay's result of a failed connection attempt.
 fn told_of_failed(answer: Result<FailedAnswer, Unfit>) -> Answer {
     match answer {
         Ok(FailedAnswer::GivenBack) => Answer::GivenBack,
@@ -264,7 +266,7 @@ fn retire(pool: &mut PoolInternals<u64>, at: Moment) -> Answer {
     told_of_reap(pool.retire(at))
 }
 
-/// What a reap or a retire answers.
+/// Returns the replay's result of a reap or a retire.
 fn told_of_reap(answer: ReapAnswer) -> Answer {
     match answer {
         ReapAnswer::Reaped {
@@ -309,8 +311,8 @@ fn look(pool: &mut PoolInternals<u64>, at: Moment) -> Answer {
     Answer::Looked(seen.moment, seen.alive)
 }
 
-/// What an event is answered: `Unfit` where it does not fit, and then nothing changes. The
-/// connection of a record is its number; that of an `Add` is the next number.
+/// Applies an event and returns its result: `Unfit` if it does not fit, and then nothing changes. A
+/// connection is the number of its record; that of an `Add` is the next number.
 pub fn apply(pool: &mut PoolInternals<u64>, known: &mut Known, event: Event) -> Answer {
     let place = known.place(event.act);
     match event.act {
@@ -348,9 +350,10 @@ pub fn apply(pool: &mut PoolInternals<u64>, known: &mut Known, event: Event) -> 
     }
 }
 
-/// What the events are answered, one answer each, from the empty state on, and the state that they
-/// leave. An event that does not fit answers `Unfit` and changes nothing. `Memory` comes only where
-/// the list of answers could not grow: want of memory inside a step is that step's answer.
+/// Replays events from the empty state on, and returns one result for each event, and the final
+/// state. An event that does not fit has the result `Unfit` and changes nothing. Fails with
+/// `Memory` only if the list of results cannot grow: memory that is refused inside a step is that
+/// step's result.
 pub fn replay(
     alloc: Global,
     config: Config,
@@ -359,7 +362,7 @@ pub fn replay(
     replay_from(alloc, config, 0, 0, events)
 }
 
-/// As `replay`, with the first number of connections and approvals, and that of gets.
+/// As `replay`, with the first numbers of connections and approvals, and of gets.
 pub fn replay_from(
     alloc: Global,
     config: Config,

@@ -1,7 +1,7 @@
-//! Connections that a step closed, in a list that was made before.
+//! Closed connections, in a list that the caller allocated.
 use crate::bb8_tables::ring::Ring;
 
-/// A connection that a step closed, with the number that it had.
+/// A connection that a step closed, with its number.
 pub struct Closed<C> {
     /// The number.
     pub number: u64,
@@ -9,6 +9,6 @@ pub struct Closed<C> {
     pub conn: C,
 }
 
-/// Closed connections, in the order in which they were closed. A step asks for no memory for it:
-/// what it has no room for is dropped.
+/// Closed connections, in the order in which they were closed. A step never grows this list: a
+/// connection that finds no room in it is dropped.
 pub type ClosedList<C> = Ring<Closed<C>>;

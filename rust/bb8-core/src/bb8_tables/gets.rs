@@ -1,4 +1,4 @@
-//! The gets of a pool.
+//! The table of gets.
 
 use crate::bb8_tables::keys::GetKey;
 use crate::bb8_tables::table::{Lendings, Slot, Table};
@@ -6,7 +6,7 @@ use crate::bb8_types::bounds::END_OF_NUMBERS;
 use crate::bb8_types::standing::{GetPlace, Getting};
 use crate::kit::{AllocError, Global};
 
-/// The table of gets, in whose line are those that wait and were not notified, and its counters.
+/// The table of gets and its counters. Its queue has the waiters that were not notified.
 pub struct Gets {
     next: u64,
     slots: Table<Getting>,
@@ -14,7 +14,7 @@ pub struct Gets {
     peak: u64,
 }
 
-/// Whether a get waits that was not notified.
+/// Returns whether a get waits and was not notified.
 pub fn is_unnotified(getting: Option<Getting>) -> bool {
     match getting {
         Some(
@@ -27,7 +27,7 @@ pub fn is_unnotified(getting: Option<Getting>) -> bool {
     }
 }
 
-/// Whether a get waits that was notified.
+/// Returns whether a get waits and was notified.
 pub fn is_notified(getting: Option<Getting>) -> bool {
     match getting {
         Some(
@@ -40,7 +40,7 @@ pub fn is_notified(getting: Option<Getting>) -> bool {
     }
 }
 
-/// Whether a get may try.
+/// Returns whether a get may try.
 pub fn is_trying(getting: Option<Getting>) -> bool {
     match getting {
         None => false,
@@ -51,7 +51,7 @@ pub fn is_trying(getting: Option<Getting>) -> bool {
     }
 }
 
-/// The number of the connection that a get holds, if it holds one.
+/// Returns the number of the connection that a get holds, None if it holds none.
 pub fn held(getting: Option<Getting>) -> Option<u64> {
     match getting {
         Some(
@@ -64,7 +64,7 @@ pub fn held(getting: Option<Getting>) -> Option<u64> {
     }
 }
 
-/// When a get first waited, if it waited.
+/// Returns when a get first waited, None if it never did.
 pub fn first_wait(getting: Option<Getting>) -> Option<u64> {
     match getting {
         None => None,
@@ -73,7 +73,7 @@ pub fn first_wait(getting: Option<Getting>) -> Option<u64> {
 }
 
 impl Gets {
-    /// No gets, which take no memory.
+    /// Returns an empty table. It allocates nothing.
     pub fn new(alloc: Global, first: u64) -> Self {
         let (slots, _) = Table::new(alloc);
         Gets {
@@ -84,22 +84,22 @@ impl Gets {
         }
     }
 
-    /// Whether a number is left.
+    /// Returns whether a number is left.
     pub fn has_number(&self) -> bool {
         self.next < END_OF_NUMBERS
     }
 
-    /// How many gets are alive.
+    /// Returns the count of gets that are alive.
     pub fn alive(&self) -> u64 {
         self.alive
     }
 
-    /// How many waiters were not notified.
+    /// Returns the count of waiters that were not notified.
     pub fn unnotified(&self) -> u64 {
         self.slots.len() as u64
     }
 
-    /// Makes room for a higher peak. Waiting needs no memory.
+    /// Allocates for a higher peak. A wait needs no memory beyond this.
     #[cold]
     fn make_room(&mut self) -> Result<(), AllocError> {
         self.slots.reserve(1)?;
@@ -107,13 +107,13 @@ impl Gets {
         Ok(())
     }
 
-    /// Makes room for one more get, where there is none yet.
+    /// Makes sure that there is room for one more get. Returns false if memory is refused.
     #[inline]
     pub fn make_room_for_one(&mut self) -> bool {
         self.alive < self.peak || self.make_room().is_ok()
     }
 
-    /// Begins a get of the next number, for which there is room.
+    /// Adds a get with the next number. There must be room.
     fn bear(&mut self) -> GetKey {
         let number = self.next;
         let place = self.slots.insert(Slot {
@@ -128,13 +128,13 @@ impl Gets {
         GetKey { number, place }
     }
 
-    /// The number that the next get will have.
+    /// Returns the number of the next get.
     #[inline]
     pub fn next_number(&self) -> u64 {
         self.next
     }
 
-    /// Begins a get of the next number that holds this connection at once, for which there is room.
+    /// Adds a get with the next number that holds this connection at once. There must be room.
     #[inline]
     pub fn bear_holding(&mut self, held: u64, lendings: &mut Lendings) -> GetKey {
         let number = self.next;
@@ -151,8 +151,7 @@ impl Gets {
         GetKey { number, place }
     }
 
-    /// Begins a get of the next number that waits at once, since this moment, for which there is
-    /// room.
+    /// Adds a get with the next number that waits at once, since `now`. There must be room.
     #[inline(always)]
     pub fn bear_waiting(&mut self, now: u64, lendings: &mut Lendings) -> GetKey {
         let number = self.next;
@@ -170,19 +169,21 @@ impl Gets {
         GetKey { number, place }
     }
 
-    /// Whether a get could begin with no memory: a number is left, and more gets were alive once.
+    /// Returns whether a get can begin without an allocation: a number is left, and more gets were
+    /// alive before.
     pub fn has_room(&self) -> bool {
         self.next < END_OF_NUMBERS && self.alive < self.peak
     }
 
-    /// Gives the next number to a get that begins and ends at once, for which there is room.
+    /// Returns the next number, for a get that begins and ends at once. There must be room.
     pub fn begin_and_end(&mut self) -> u64 {
         let number = self.next;
         self.next += 1;
         number
     }
 
-    /// Begins a get. Memory is asked for only where as many gets are alive as ever were.
+    /// Begins a get. Returns None if memory is refused. Memory is requested only if as many gets
+    /// are alive as ever were.
     #[inline]
     pub fn begin(&mut self) -> Option<GetKey> {
         if !self.make_room_for_one() {
@@ -191,7 +192,7 @@ impl Gets {
         Some(self.bear())
     }
 
-    /// Has a get wait, which did not wait or was notified, since this moment if it did not wait
+    /// Makes a get wait that is not an unnotified waiter. It waits since `now` if it did not wait
     /// before.
     pub fn wait(&mut self, g: GetKey, now: u64, lendings: &mut Lendings) {
         match self.slots.locate(g.number, g.place, lendings) {
@@ -203,7 +204,7 @@ impl Gets {
         }
     }
 
-    /// Has a get stand elsewhere that stands in no line: it holds a connection now, or is active
+    /// Changes the state of a get that is in no queue: it holds a connection now, or is active
     /// again.
     pub fn turn(&mut self, g: GetKey, place: GetPlace, lendings: &mut Lendings) {
         match self.slots.locate(g.number, g.place, lendings) {
@@ -214,7 +215,7 @@ impl Gets {
         }
     }
 
-    /// Notifies the oldest waiter that was not notified.
+    /// Notifies the longest waiter that was not notified, and returns it.
     #[inline(always)]
     pub fn notify(&mut self, lendings: &mut Lendings) -> Option<GetKey> {
         match self.slots.first() {
@@ -227,8 +228,8 @@ impl Gets {
         }
     }
 
-    /// Has a get that holds a connection be active again, and tells which it held. Where it holds
-    /// none nothing changes. It looks for it once.
+    /// Makes a get active again that holds a connection, and returns that connection's number.
+    /// Returns None and changes nothing if it holds none. Looks it up once.
     #[inline]
     pub fn let_go(&mut self, g: GetKey, lendings: &mut Lendings) -> Option<u64> {
         match self.slots.locate(g.number, g.place, lendings) {
@@ -243,8 +244,8 @@ impl Gets {
         }
     }
 
-    /// Ends a get that is alive and holds nothing, and tells how it stood. Where there is none
-    /// nothing changes. It looks for it once.
+    /// Ends a get that is alive and holds nothing, and returns its last state. Returns None and
+    /// changes nothing if there is no such get. Looks it up once.
     #[inline(always)]
     pub fn end(&mut self, g: GetKey, lendings: &mut Lendings) -> Option<Getting> {
         match self.slots.locate(g.number, g.place, lendings) {
@@ -261,8 +262,8 @@ impl Gets {
         }
     }
 
-    /// Ends a get that is alive and in no line.
-    #[inline]
+    /// Ends a get that is alive and in no queue.
+    #[inline(always)]
     pub fn finish(&mut self, g: GetKey, lendings: &mut Lendings) {
         match self.slots.locate(g.number, g.place, lendings) {
             None => {}
@@ -273,8 +274,8 @@ impl Gets {
         }
     }
 
-    /// Ends a get that holds a connection, and tells which, and when it first waited. Where it
-    /// holds none nothing changes. It looks for it once.
+    /// Ends a get that holds a connection. Returns that connection's number and the moment of the
+    /// get's first wait. Returns None and changes nothing if it holds none. Looks it up once.
     #[inline(always)]
     pub fn finish_holding(
         &mut self,
@@ -297,7 +298,7 @@ impl Gets {
         }
     }
 
-    /// Where the number stands, if the get is alive.
+    /// Returns the key of a get, None if it is not alive.
     pub fn find(&self, number: u64, lendings: &mut Lendings) -> Option<GetKey> {
         match self.slots.locate(number, 0, lendings) {
             None => None,
@@ -305,7 +306,7 @@ impl Gets {
         }
     }
 
-    /// How the get stands, if it is alive.
+    /// Returns the state of a get, None if it is not alive.
     #[inline(always)]
     pub fn getting(&self, g: GetKey, lendings: &mut Lendings) -> Option<Getting> {
         match self.slots.slot(g.number, g.place, lendings) {

@@ -1,50 +1,50 @@
-//! Places in an order that links from place to place keep: a place enters at the new end, and
-//! leaves wherever it stands.
+//! A doubly linked list of table indexes. An index is added at the back, and can be removed from
+//! anywhere.
 
 use crate::kit::Vec;
 use crate::kit::{AllocError, Global};
 
-/// The places before and after a place.
+/// The indexes before and after one.
 #[derive(Clone, Copy)]
 struct Link {
     before: u32,
     after: u32,
 }
 
-/// The place that stands for both ends.
+/// The index that marks both ends.
 const END: u32 = 0;
 
-/// The links of all places.
+/// The links of all indexes.
 struct Links {
     entries: Vec<Link>,
 }
 
-/// Some of the places from 1 on, in an order. A place that is not in it leads to itself.
+/// An ordered list of some of the indexes from 1 on. An index that is not in it links to itself.
 pub struct Line {
     links: Links,
     len: usize,
 }
 
-/// Changes the place after one.
+/// Sets the index that follows `at`.
 #[inline]
 fn set_after(links: &mut [Link], at: u32, to: u32) {
     links[at as usize].after = to;
 }
 
-/// Changes the place before one.
+/// Sets the index that precedes `at`.
 #[inline]
 fn set_before(links: &mut [Link], at: u32, to: u32) {
     links[at as usize].before = to;
 }
 
 impl Links {
-    /// The places before and after one.
+    /// Returns the indexes before and after `at`.
     #[inline]
     fn read(&self, at: u32) -> Link {
         self.entries[at as usize]
     }
 
-    /// Adds a place that leads to itself.
+    /// Adds an index that links to itself.
     fn append(&mut self, place: u32) -> Result<(), AllocError> {
         let link = Link {
             before: place,
@@ -56,7 +56,7 @@ impl Links {
         }
     }
 
-    /// Lets one place come right after another.
+    /// Links two indexes: `right` follows `left`.
     #[inline]
     fn join(&mut self, left: u32, right: u32) {
         let entries = self.entries.as_mut_slice();
@@ -66,7 +66,7 @@ impl Links {
 }
 
 impl Line {
-    /// No place stands in it, and it takes no memory.
+    /// Returns an empty list. It allocates nothing.
     pub fn new(alloc: Global) -> Self {
         Line {
             links: Links {
@@ -76,12 +76,12 @@ impl Line {
         }
     }
 
-    /// Takes the memory for so many more places.
+    /// Allocates for this many more indexes.
     pub fn reserve(&mut self, additional: usize) -> Result<(), AllocError> {
         self.links.entries.reserve(additional)
     }
 
-    /// Adds a place, which does not stand in it.
+    /// Adds one more index, which is not in the list yet.
     pub fn add_place(&mut self) -> Result<(), AllocError> {
         let place = self.links.entries.len();
         if place > u32::MAX as usize {
@@ -90,13 +90,13 @@ impl Line {
         self.links.append(place as u32)
     }
 
-    /// How many places stand in it.
+    /// Returns the length of the list.
     #[inline]
     pub fn len(&self) -> usize {
         self.len
     }
 
-    /// The place that came in first.
+    /// Returns the index at the front, which was added first.
     #[inline]
     pub fn first(&self) -> Option<usize> {
         if self.len == 0 {
@@ -105,7 +105,7 @@ impl Line {
         Some(self.links.read(END).after as usize)
     }
 
-    /// The place that came in last.
+    /// Returns the index at the back, which was added last.
     #[inline]
     pub fn last(&self) -> Option<usize> {
         if self.len == 0 {
@@ -114,7 +114,7 @@ impl Line {
         Some(self.links.read(END).before as usize)
     }
 
-    /// The place after one that stands in it.
+    /// Returns the index after one that is in the list.
     #[inline]
     pub fn next(&self, place: usize) -> Option<usize> {
         let next = self.links.read(place as u32).after;
@@ -124,7 +124,7 @@ impl Line {
         Some(next as usize)
     }
 
-    /// Puts a place at the new end.
+    /// Adds an index at the back.
     #[inline]
     pub fn push(&mut self, place: usize) {
         let last = self.links.read(END).before;
@@ -133,7 +133,7 @@ impl Line {
         self.len += 1;
     }
 
-    /// Takes a place out that stands in it.
+    /// Removes an index that is in the list.
     #[inline]
     pub fn leave(&mut self, place: usize) {
         let _links = &self.links;
@@ -144,7 +144,7 @@ impl Line {
         self.len -= 1;
     }
 
-    /// Takes a place out, wherever it stands in it, if it does.
+    /// Removes an index if it is in the list.
     #[inline]
     pub fn unlink(&mut self, place: usize) {
         let _links = &self.links;

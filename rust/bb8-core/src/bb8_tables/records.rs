@@ -1,4 +1,4 @@
-//! The connections and approvals of a pool.
+//! The table of connections and approvals.
 
 mod reaps;
 
@@ -13,9 +13,9 @@ use crate::bb8_types::standing::{Holder, Place, Standing};
 pub use reaps::Reaped;
 use crate::kit::{AllocError, Global};
 
-/// The table of connections and approvals, with the line of unclaimed approvals and its counters.
-/// In the table's line are the idle connections, by their last entry; in its order of births all
-/// connections, idle or out.
+/// The table of connections and approvals, the queue of unclaimed approvals, and counters. The
+/// table's queue has the idle connections in the order in which they became idle; its births have
+/// all connections, idle or checked out, in the order of birth.
 pub struct Records<C> {
     next: u64,
     slots: Table<Standing<C>>,
@@ -39,7 +39,7 @@ fn is_guarded<C>(place: &Place<C>) -> bool {
     }
 }
 
-/// Whether a connection is out with this holder.
+/// Returns whether a connection is checked out by this holder.
 fn is_with<C>(place: &Place<C>, holder: Holder) -> bool {
     match holder {
         Holder::Guard => is_guarded(place),
@@ -50,7 +50,7 @@ fn is_with<C>(place: &Place<C>, holder: Holder) -> bool {
     }
 }
 
-/// The connection of an idle place.
+/// Returns the connection of an idle record, None for other states.
 fn connection_of<C>(place: Place<C>) -> Option<C> {
     match place {
         Place::Idle(conn) => Some(conn),
@@ -58,7 +58,7 @@ fn connection_of<C>(place: Place<C>) -> Option<C> {
     }
 }
 
-/// Frees the place of an idle connection, which is offered to a list, and tells its number.
+/// Frees the entry of an idle connection, offers the connection to a list, and returns its number.
 fn close_idle_at<C>(
     slots: &mut Table<Standing<C>>,
     place: usize,
@@ -71,12 +71,12 @@ fn close_idle_at<C>(
     number
 }
 
-/// Whether a connection that comes back is closed.
+/// Returns whether a returned connection must be closed.
 fn is_closing(broken: bool, expired: bool, ended: bool) -> bool {
     broken || expired || ended
 }
 
-/// Where a connection stands that somebody holds.
+/// Returns the state of a connection with this holder.
 fn place_of<C>(holder: Holder) -> Place<C> {
     match holder {
         Holder::Guard => Place::Guarded,
@@ -84,7 +84,7 @@ fn place_of<C>(holder: Holder) -> Place<C> {
     }
 }
 
-/// A new approval, claimed or not.
+/// Returns a new approval, claimed or not.
 fn approval<C>(claimed: bool) -> Standing<C> {
     let place = if claimed {
         Place::Claimed
@@ -98,20 +98,21 @@ fn approval<C>(claimed: bool) -> Standing<C> {
     }
 }
 
-/// Puts a new approval in line, where it is not claimed already.
+/// Adds a new approval to the queue, unless it is claimed already.
 fn push_unclaimed(unclaimed: &mut Ring<Key>, claimed: bool, key: Key) {
     if !claimed {
         unclaimed.push(key);
     }
 }
 
-/// One, where the test passes.
+/// Returns 1 if the test passes, else 0.
 pub fn one(test: bool) -> u64 {
     if test { 1 } else { 0 }
 }
 
 impl<C> Records<C> {
-    /// No records, which take no memory, and the leave to ask.
+    /// Returns an empty table, which allocates nothing, and the permission to read tables without
+    /// counting the access.
     pub fn new(alloc: Global, first: u64) -> (Self, UncountedAccess) {
         let (slots, asking) = Table::new(alloc);
         let records = Records {
@@ -125,12 +126,12 @@ impl<C> Records<C> {
         (records, asking)
     }
 
-    /// A list with no room, which takes no memory.
+    /// Returns a list without room. It allocates nothing.
     pub fn no_list(&self) -> ClosedList<C> {
         self.unclaimed.another()
     }
 
-    /// Claims the unclaimed approval of the least number.
+    /// Claims the unclaimed approval with the lowest number.
     pub fn claim(&mut self, lendings: &mut Lendings) -> Option<Key> {
         match self.unclaimed.pop() {
             None => None,
@@ -141,7 +142,7 @@ impl<C> Records<C> {
         }
     }
 
-    /// When the connection became idle that is first of the idle ones. One entry is lent.
+    /// Returns when the first idle connection became idle. Reads one entry.
     #[inline]
     pub fn first_entered(&self, strategy: QueueStrategy, lendings: &mut Lendings) -> Option<u64> {
         match self.slots.first_by(strategy) {
@@ -150,7 +151,7 @@ impl<C> Records<C> {
         }
     }
 
-    /// Takes out the idle connection that is first, for whoever holds it from now on.
+    /// Checks out the first idle connection to this holder.
     #[inline(always)]
     pub fn take(
         &mut self,
@@ -171,7 +172,8 @@ impl<C> Records<C> {
         }
     }
 
-    /// Has a guard take over a connection that is out, and tells where it stands.
+    /// Changes the holder of a checked-out connection to a guard, and returns its key with a fresh
+    /// hint.
     pub fn hand_over(&mut self, k: Key, lendings: &mut Lendings) -> Key {
         match self.slots.locate(k.number, k.place, lendings) {
             None => k,
@@ -185,9 +187,9 @@ impl<C> Records<C> {
         }
     }
 
-    /// Makes a connection idle that a claimed approval brought, and that is born now. Where the
-    /// number is no claimed approval the connection comes back, and nothing changes. No birth and
-    /// no entry may lie after `now`. It looks for the approval once.
+    /// Adds the connection of a claimed approval as idle, born now. Returns the connection and
+    /// changes nothing if the number is not that of a claimed approval. No birth and no entry may
+    /// be later than `now`. Looks the approval up once.
     pub fn enter(&mut self, k: Key, conn: C, now: u64, lendings: &mut Lendings) -> Result<(), C> {
         match self.slots.locate(k.number, k.place, lendings) {
             None => Err(conn),
@@ -210,11 +212,11 @@ impl<C> Records<C> {
         }
     }
 
-    /// Takes back a connection that somebody holds, which is idle again and keeps its birth. Where
-    /// it is broken, or older than `greatest_age`, or the pool has ended, it is handed back
-    /// instead, with whether it is older than that, and nothing changes. Where the holder does not
-    /// have it, it comes back, and nothing changes. No birth and no entry may lie after `now`. It
-    /// looks for the connection once.
+    /// Makes a checked-out connection idle again; it keeps its birth. Returns it instead, with
+    /// whether it is older than `greatest_age`, and changes nothing, if it is broken or older than
+    /// that, or the pool has ended. Returns `Err` with the connection and changes nothing if it is
+    /// not checked out by this holder. No birth and no entry may be later than `now`. Looks the
+    /// connection up once.
     #[inline(always)]
     pub fn put_back(
         &mut self,
@@ -251,8 +253,8 @@ impl<C> Records<C> {
         }
     }
 
-    /// Ends a claimed approval, and tells whether the number is one. Where it is none nothing
-    /// changes. It looks for it once.
+    /// Ends a claimed approval. Returns false and changes nothing if the number is not that of one.
+    /// Looks it up once.
     pub fn end_claimed(&mut self, k: Key, lendings: &mut Lendings) -> bool {
         match self.slots.locate(k.number, k.place, lendings) {
             None => false,
@@ -267,7 +269,7 @@ impl<C> Records<C> {
         }
     }
 
-    /// Ends a connection that a guard or a get held.
+    /// Ends a checked-out connection.
     pub fn close(&mut self, k: Key, lendings: &mut Lendings) {
         match self.slots.locate(k.number, k.place, lendings) {
             None => {}
@@ -278,7 +280,7 @@ impl<C> Records<C> {
         }
     }
 
-    /// Ends the idle connection that entered first, and offers it to a list.
+    /// Ends the connection that has been idle longest, and offers it to a list.
     fn end_idle(&mut self, closed: &mut ClosedList<C>) -> Option<Key> {
         match self.slots.first() {
             None => None,
@@ -290,7 +292,7 @@ impl<C> Records<C> {
         }
     }
 
-    /// Ends the unclaimed approval of the least number.
+    /// Ends the unclaimed approval with the lowest number.
     fn end_unclaimed(&mut self) -> Option<Key> {
         match self.unclaimed.pop() {
             None => None,
@@ -302,7 +304,7 @@ impl<C> Records<C> {
         }
     }
 
-    /// Ends all idle connections, offers them to a list, and tells how many they were.
+    /// Ends all idle connections, offers them to a list, and returns their count.
     fn end_idles(&mut self, closed: &mut ClosedList<C>) -> u32 {
         let many = self.idle_connections();
         for _ in 0..many {
@@ -318,15 +320,15 @@ impl<C> Records<C> {
         }
     }
 
-    /// Ends all that nobody holds or claimed: the idle connections, which are counted and offered
-    /// to a list, and the unclaimed approvals.
+    /// Ends all idle connections and unclaimed approvals. Offers the connections to a list and
+    /// returns their count.
     pub fn leave(&mut self, closed: &mut ClosedList<C>) -> u32 {
         let many = self.end_idles(closed);
         self.end_unclaimeds();
         many
     }
 
-    /// Makes room for a higher peak.
+    /// Allocates for a higher peak.
     fn make_room(&mut self, peak: u64) -> Result<(), AllocError> {
         let free = peak - (self.conns + self.approved);
         self.slots.reserve(free as usize)?;
@@ -335,13 +337,13 @@ impl<C> Records<C> {
         Ok(())
     }
 
-    /// Makes room for one more record, where there is none yet.
+    /// Makes sure that there is room for one more record. Returns false if memory is refused.
     fn make_room_for_one(&mut self) -> bool {
         let used = self.used();
         used < self.peak || self.make_room(used + 1).is_ok()
     }
 
-    /// Makes an idle connection of the next number, for which there is room.
+    /// Adds an idle connection with the next number. There must be room.
     fn bear(&mut self, conn: C, now: u64) -> Key {
         let number = self.next;
         let place = self.slots.insert(Slot {
@@ -359,8 +361,9 @@ impl<C> Records<C> {
         Key { number, place }
     }
 
-    /// Adds an idle connection that was born now. Memory is asked for only where there are as many
-    /// records as ever were. No birth and no entry may lie after `now`.
+    /// Adds an idle connection that was born now. Returns it if memory is refused. Memory is
+    /// requested only if there are as many records as ever were. No birth and no entry may be later
+    /// than `now`.
     pub fn add(&mut self, conn: C, now: u64) -> Result<Key, C> {
         if !self.make_room_for_one() {
             return Err(conn);
@@ -368,17 +371,17 @@ impl<C> Records<C> {
         Ok(self.bear(conn, now))
     }
 
-    /// Whether a number is left.
+    /// Returns whether a number is left.
     pub fn has_number(&self) -> bool {
         self.next < END_OF_NUMBERS
     }
 
-    /// The next number.
+    /// Returns the next number.
     pub fn next_number(&self) -> u64 {
         self.next
     }
 
-    /// Makes one approval, for which there is room.
+    /// Adds one approval. There must be room.
     fn approve(&mut self, claimed: bool) {
         let number = self.next;
         let place = self.slots.insert(Slot {
@@ -390,8 +393,8 @@ impl<C> Records<C> {
         self.approved += 1;
     }
 
-    /// Grants the approvals that are due, as far as there is room and memory. All room is made
-    /// before the first one.
+    /// Grants the approvals that are due, as far as room and memory allow. All memory is requested
+    /// before the first one is added.
     #[cold]
     fn grant_some(&mut self, due: u64, claimed: bool) -> Grant {
         let taken = self.conns + self.approved;
@@ -413,7 +416,7 @@ impl<C> Records<C> {
         }
     }
 
-    /// As `grant_some`. Most often nothing is due, and that is told without a call.
+    /// As `grant_some`. Usually nothing is due, and then no call is made.
     #[inline]
     pub fn grant(&mut self, due: u64, claimed: bool) -> Grant {
         if due > 0 {
@@ -422,32 +425,32 @@ impl<C> Records<C> {
         Grant::of_nothing(self.next)
     }
 
-    /// How many open approvals there are.
+    /// Returns the count of open approvals.
     pub fn approved(&self) -> u64 {
         self.approved
     }
 
-    /// How many connections and open approvals there are.
+    /// Returns the count of connections and open approvals.
     pub fn used(&self) -> u64 {
         self.conns + self.approved
     }
 
-    /// How many idle connections and open approvals there are.
+    /// Returns the count of idle connections and open approvals.
     pub fn ready(&self) -> u64 {
         self.slots.len() as u64 + self.approved
     }
 
-    /// How many connections there are.
+    /// Returns the count of connections.
     pub fn connections(&self) -> u32 {
         self.conns as u32
     }
 
-    /// How many idle connections there are.
+    /// Returns the count of idle connections.
     pub fn idle_connections(&self) -> u32 {
         self.slots.len() as u32
     }
 
-    /// The birth of the record.
+    /// Returns the birth of a record.
     pub fn birth(&self, k: Key, lendings: &mut Lendings) -> u64 {
         match self.slots.slot(k.number, k.place, lendings) {
             None => 0,
@@ -455,7 +458,7 @@ impl<C> Records<C> {
         }
     }
 
-    /// Where the number stands, if it does.
+    /// Returns the key of a record, None if it has ended.
     pub fn find(&self, number: u64, lendings: &mut Lendings) -> Option<Key> {
         match self.slots.locate(number, 0, lendings) {
             None => None,
@@ -463,7 +466,7 @@ impl<C> Records<C> {
         }
     }
 
-    /// Whether the number is a claimed approval.
+    /// Returns whether a record is a claimed approval.
     pub fn is_claimed(&self, k: Key, lendings: &mut Lendings) -> bool {
         match self.slots.slot(k.number, k.place, lendings) {
             None => false,
@@ -471,7 +474,7 @@ impl<C> Records<C> {
         }
     }
 
-    /// Whether the number is a connection that a guard holds.
+    /// Returns whether a guard holds a record.
     pub fn is_guarded(&self, k: Key, lendings: &mut Lendings) -> bool {
         match self.slots.slot(k.number, k.place, lendings) {
             None => false,

@@ -1,26 +1,26 @@
-//! A ring that takes memory only when it grows.
+//! A ring buffer that allocates only when it grows.
 
 use crate::kit::HeapCircularBuffer;
 use crate::kit::{AllocError, Global};
 
-/// Items in line, seen as a buffer of items with a capacity.
+/// A queue of items. Contracts see a buffer of items with a capacity.
 pub struct Ring<T> {
     alloc: Global,
     made: Option<HeapCircularBuffer<T>>,
 }
 
 impl<T> Ring<T> {
-    /// An empty ring, which takes no memory.
+    /// Returns an empty ring. It allocates nothing.
     pub fn new(alloc: Global) -> Self {
         Ring { alloc, made: None }
     }
 
-    /// An empty ring over the same memory, of which it takes none.
+    /// Returns an empty ring with the same allocator. It allocates nothing.
     pub fn another<U>(&self) -> Ring<U> {
         Ring::new(self.alloc)
     }
 
-    /// Makes room for so many items in all.
+    /// Grows to a capacity of this many items.
     pub fn grow(&mut self, capacity: usize) -> Result<(), AllocError> {
         match &mut self.made {
             Some(ring) => ring.resize(capacity),
@@ -32,7 +32,7 @@ impl<T> Ring<T> {
         }
     }
 
-    /// Adds an item at the back, for which there is room.
+    /// Adds an item at the back. There must be room.
     pub fn push(&mut self, item: T) {
         match &mut self.made {
             Some(ring) => {
@@ -42,7 +42,7 @@ impl<T> Ring<T> {
         }
     }
 
-    /// Adds an item at the back, where there is room, and drops it where there is none.
+    /// Adds an item at the back if there is room; otherwise drops it.
     pub fn offer(&mut self, item: T) {
         match &mut self.made {
             Some(ring) => {
@@ -52,7 +52,7 @@ impl<T> Ring<T> {
         }
     }
 
-    /// Takes the item at the front.
+    /// Removes the item at the front.
     pub fn pop(&mut self) -> Option<T> {
         match &mut self.made {
             Some(ring) => ring.pop_front(),
@@ -60,7 +60,7 @@ impl<T> Ring<T> {
         }
     }
 
-    /// How many items there are.
+    /// Returns the count of items.
     pub fn len(&self) -> usize {
         match &self.made {
             Some(ring) => ring.len(),

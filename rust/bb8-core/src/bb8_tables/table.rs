@@ -1,4 +1,4 @@
-//! A table of places, in which each number stands once, and some stand in line.
+//! A table of numbered entries, with a queue of some of them.
 
 mod lendings;
 
@@ -6,25 +6,25 @@ use crate::bb8_tables::line::Line;
 use crate::bb8_types::api::QueueStrategy;
 use crate::bb8_types::bounds::END_OF_NUMBERS;
 use crate::bb8_types::standing::{GetPlace, Getting, Place, Standing};
-pub use lendings::{Lendings, UncountedAccess};
+pub use lendings::{LatestLendings, Lendings, UncountedAccess};
 use crate::kit::Vec;
 use crate::kit::{AllocError, Global};
 use std::mem;
 
-/// What stands at a place, with its number.
+/// A table entry: a number and its state.
 pub struct Slot<S> {
     /// The number.
     pub number: u64,
-    /// What stands there.
+    /// The state.
     pub standing: S,
 }
 
-/// How many places are added at most beyond those that are asked for.
+/// The most free entries that are added beyond those requested.
 const MOST_AT_ONCE: usize = 64;
 
-/// What a free place holds.
+/// The content of a free entry.
 pub trait Vacant {
-    /// Something that is never seen.
+    /// Returns a state that is never seen.
     fn vacant() -> Self;
 }
 
@@ -47,9 +47,9 @@ impl Vacant for Getting {
     }
 }
 
-/// Places, with the line of those that stand in it, and those of connections by birth. Ended places
-/// are used again, the last one first. No place is the first one, which stands for the ends of both
-/// orders.
+/// A table of entries by index. `line` is a queue of some of them; `births` orders connections by
+/// birth. Freed indexes are reused, the last one first. Index 0 is never used: it marks the ends of
+/// both lists.
 pub struct Table<S> {
     slots: Vec<Slot<S>>,
     line: Line,
@@ -58,7 +58,8 @@ pub struct Table<S> {
 }
 
 impl<S> Table<S> {
-    /// An empty table, which takes no memory, and the leave to ask.
+    /// Returns an empty table, which allocates nothing, and the permission to read it without
+    /// counting the access.
     pub fn new(alloc: Global) -> (Self, UncountedAccess) {
         let table = Table {
             slots: Vec::new(alloc),
@@ -69,11 +70,11 @@ impl<S> Table<S> {
         (table, UncountedAccess::given())
     }
 
-    /// Takes a free place, of which there is one.
+    /// Fills a free entry and returns its index. There must be one.
     #[inline]
     pub fn insert(&mut self, slot: Slot<S>) -> usize {
         match self.free.pop() {
-            // One is free, so this does not come.
+            // Unreachable: one is free.
             None => 0,
             Some(place) => {
                 self.slots[place as usize] = slot;
@@ -82,7 +83,7 @@ impl<S> Table<S> {
         }
     }
 
-    /// What stands at a place, if it has that number.
+    /// Returns the entry at an index if it has this number.
     #[inline]
     fn found(&self, number: u64, at: usize) -> Option<&Slot<S>> {
         match self.slots.get(at) {
@@ -97,7 +98,7 @@ impl<S> Table<S> {
         }
     }
 
-    /// Where a search finds the number, which is counted.
+    /// Searches all entries for a number and returns its index. The search is counted.
     #[cold]
     fn search(&self, number: u64, lendings: &mut Lendings) -> Option<usize> {
         lendings.search();
@@ -109,7 +110,7 @@ impl<S> Table<S> {
         None
     }
 
-    /// Where the number stands: at the hint, or else where a search finds it, which is counted.
+    /// Returns the index of a number: the hint if it is right, else the result of a counted search.
     #[inline]
     pub fn locate(&self, number: u64, hint: usize, lendings: &mut Lendings) -> Option<usize> {
         match self.found(number, hint) {
@@ -118,7 +119,7 @@ impl<S> Table<S> {
         }
     }
 
-    /// What a search finds under the number, which is counted.
+    /// Returns the entry with a number, by a counted search.
     #[cold]
     fn sought(&self, number: u64, lendings: &mut Lendings) -> Option<&Slot<S>> {
         match self.search(number, lendings) {
@@ -127,8 +128,8 @@ impl<S> Table<S> {
         }
     }
 
-    /// What stands under the number: at the hint, or else where a search finds it, which is
-    /// counted. One entry is lent.
+    /// Returns the entry with a number: at the hint if that is right, else by a counted search.
+    /// Reads one entry.
     #[inline]
     pub fn slot(&self, number: u64, hint: usize, lendings: &mut Lendings) -> Option<&Slot<S>> {
         lendings.lend();
@@ -138,26 +139,26 @@ impl<S> Table<S> {
         }
     }
 
-    /// What stands at a place. One entry is lent.
+    /// Returns the entry at an index. Reads one entry.
     #[inline]
     pub fn at(&self, place: usize, lendings: &mut Lendings) -> &Slot<S> {
         lendings.lend();
         &self.slots[place]
     }
 
-    /// How many places stand in line.
+    /// Returns the length of the queue.
     #[inline]
     pub fn len(&self) -> usize {
         self.line.len()
     }
 
-    /// The place that came into line first.
+    /// Returns the index at the front of the queue.
     #[inline]
     pub fn first(&self) -> Option<usize> {
         self.line.first()
     }
 
-    /// The place that came into line first, or the one that came last.
+    /// Returns the index at the front of the queue (`Fifo`) or at its back (`Lifo`).
     #[inline]
     pub fn first_by(&self, strategy: QueueStrategy) -> Option<usize> {
         match strategy {
@@ -166,51 +167,51 @@ impl<S> Table<S> {
         }
     }
 
-    /// Puts a place at the new end of the line.
+    /// Adds an index at the back of the queue.
     #[inline]
     pub fn line_up(&mut self, place: usize) {
         self.line.push(place);
     }
 
-    /// How many places stand in the order of births.
+    /// Returns the length of the order of births.
     #[inline]
     pub fn births(&self) -> usize {
         self.births.len()
     }
 
-    /// The place whose connection was born first.
+    /// Returns the index of the oldest connection.
     #[inline]
     pub fn first_birth(&self) -> Option<usize> {
         self.births.first()
     }
 
-    /// What stands at a place, and the place after it in the order of births. One entry is lent for
-    /// both.
+    /// Returns the entry at an index, and the next index in the order of births. Reads one entry
+    /// for both.
     #[inline]
     pub fn pass(&self, place: usize, lendings: &mut Lendings) -> (&Slot<S>, Option<usize>) {
         let next = self.births.next(place);
         (self.at(place, lendings), next)
     }
 
-    /// Puts a place at the new end of the order of births.
+    /// Adds an index at the back of the order of births.
     #[inline]
     pub fn add_birth(&mut self, place: usize) {
         self.births.push(place);
     }
 
-    /// Takes a place out of line that stands in it.
+    /// Removes an index that is in the queue.
     #[inline]
     pub fn leave(&mut self, place: usize) {
         self.line.leave(place);
     }
 
-    /// Takes a place out of line, wherever it stands in it, if it does.
+    /// Removes an index from the queue if it is in it.
     #[inline]
     pub fn step_out(&mut self, place: usize) {
         self.line.unlink(place);
     }
 
-    /// Has something else stand at a place, and gives back what stood there.
+    /// Replaces the state at an index and returns the old one.
     #[inline]
     pub fn replace(&mut self, place: usize, standing: S, lendings: &mut Lendings) -> S {
         lendings.lend();
@@ -219,14 +220,14 @@ impl<S> Table<S> {
 }
 
 impl<S: Vacant> Table<S> {
-    /// Frees a place, wherever it stands in the orders, and gives back what stood there.
+    /// Frees an entry, removes it from both orders, and returns it.
     #[inline(always)]
     pub fn take_out(&mut self, place: usize) -> Slot<S> {
         self.step_out(place);
         self.release(place)
     }
 
-    /// Frees a place that is not in line, and gives back what stood there.
+    /// Frees an entry that is not in the queue, and returns it.
     #[inline(always)]
     pub fn release(&mut self, place: usize) -> Slot<S> {
         self.births.unlink(place);
@@ -238,22 +239,22 @@ impl<S: Vacant> Table<S> {
         mem::replace(&mut self.slots[place], vacant)
     }
 
-    /// Frees a place, and tells which number ended there.
+    /// Frees an entry and returns its number.
     #[inline(always)]
     pub fn remove(&mut self, place: usize) -> u64 {
         self.take_out(place).number
     }
 
-    /// Takes the memory for so many more places.
+    /// Allocates for this many more entries.
     fn grow(&mut self, additional: usize) -> Result<(), AllocError> {
-        // First what takes most, so that little is kept where it is refused.
+        // The largest first, so that little is kept if memory is refused.
         self.slots.reserve(additional)?;
         self.line.reserve(additional)?;
         self.births.reserve(additional)?;
         self.free.reserve(additional)
     }
 
-    /// Adds a place where nothing stands, which is free but where it is the first one.
+    /// Adds an empty entry. It is free, except for the one at index 0.
     #[inline(always)]
     fn add_place(&mut self) -> Result<(), AllocError> {
         let place = self.slots.len();
@@ -272,7 +273,7 @@ impl<S: Vacant> Table<S> {
         Ok(())
     }
 
-    /// Adds so many free places. Some of them may stand where memory for all was refused.
+    /// Adds this many free entries. If memory is refused, some of them may have been added.
     fn add_places(&mut self, count: usize) -> Result<(), AllocError> {
         self.grow(count.saturating_add(1))?;
         if self.slots.is_empty() {
@@ -284,9 +285,9 @@ impl<S: Vacant> Table<S> {
         Ok(())
     }
 
-    /// Makes room for so many more in all. Where there is none yet, as many places more are added
-    /// as there are, up to `MOST_AT_ONCE`, so that most calls find room; where memory for those is
-    /// refused, as many as are missing.
+    /// Makes sure that this many entries are free. If there are fewer, those missing are added; or,
+    /// if that is more, as many as the table has, up to `MOST_AT_ONCE`, so that most calls allocate
+    /// nothing. If that memory is refused, only those missing are added.
     pub fn reserve(&mut self, additional: usize) -> Result<(), AllocError> {
         let missing = additional.saturating_sub(self.free.len());
         if missing == 0 {
@@ -302,7 +303,7 @@ impl<S: Vacant> Table<S> {
 }
 
 impl<C> Table<Standing<C>> {
-    /// Has the record at a place stand elsewhere, and tells its number and where it stood.
+    /// Changes the state of the record at an index, and returns its number and its old state.
     #[inline]
     pub fn put(&mut self, at: usize, place: Place<C>, lendings: &mut Lendings) -> (u64, Place<C>) {
         lendings.lend();
@@ -312,7 +313,7 @@ impl<C> Table<Standing<C>> {
 }
 
 impl Table<Getting> {
-    /// Has the get at a place stand elsewhere, and tells its number.
+    /// Changes the state of the get at an index, and returns its number.
     #[inline]
     pub fn turn(&mut self, at: usize, place: GetPlace, lendings: &mut Lendings) -> u64 {
         lendings.lend();
@@ -321,7 +322,7 @@ impl Table<Getting> {
         slot.number
     }
 
-    /// Has the get that stands at a place wait, since this moment if it did not wait before.
+    /// Makes the get at an index wait, since `now` if it did not wait before.
     #[inline]
     pub fn wait(&mut self, at: usize, now: u64, lendings: &mut Lendings) {
         lendings.lend();

@@ -1,5 +1,5 @@
-//! What a user of the pool names: configuration, moments, figures, errors, and the traits that a
-//! user implements.
+//! The public data of a pool: configuration, moments, statistics, errors, and the traits that users
+//! implement.
 
 mod clocks;
 mod configuration;

@@ -1,5 +1,4 @@
-//! Where numbers end.
+//! The bound of ids.
 
-/// The number that is never given, to no connection, no approval and no get: the numbers before it
-/// are.
+/// The id that is never given, to no connection, approval or get. All smaller ones are.
 pub const END_OF_NUMBERS: u64 = u64::MAX;

@@ -1,19 +1,20 @@
-//! What a step grants.
+//! The approvals that a step granted.
 
-/// Approvals that a step granted: those numbered `first` to `first + count - 1`. It stands for
-/// upstream's list of approvals.
+/// Approvals that a step granted: those numbered `first` to `first + count - 1`. It replaces bb8's
+/// list of approvals.
 #[derive(Clone, Copy, Debug, PartialEq, Eq)]
 pub struct Grant {
-    /// The number of the first one; the next number that is free where `count` is 0.
+    /// The number of the first one, or the next free number if `count` is 0.
     pub first: u64,
-    /// How many were granted.
+    /// The count of approvals granted.
     pub count: u32,
-    /// How many more were due and were not granted, for want of memory or of numbers.
+    /// The count of approvals that were due but not granted, because memory was refused or no
+    /// number was left.
     pub withheld: u32,
 }
 
 impl Grant {
-    /// A grant of nothing, where `next` is the next number that is free.
+    /// Returns a grant of nothing. `next` is the next free number.
     pub fn of_nothing(next: u64) -> Self {
         Grant {
             first: next,

@@ -1,10 +1,10 @@
-//! Why a get is given up.
+//! Why a get ended without a connection.
 
-/// Why a get is given up.
+/// Why a get ended without a connection.
 #[derive(Clone, Copy, Debug, PartialEq, Eq)]
 pub enum Reason {
-    /// Its deadline came.
+    /// Its deadline passed.
     TimedOut,
-    /// It was let go.
+    /// It was cancelled.
     Cancelled,
 }

@@ -1,20 +1,20 @@
-//! Where the records and the gets of a pool stand that have not ended.
+//! The states of records and gets that have not ended.
 
-/// Where a record stands that has not ended.
+/// The state of a record that has not ended.
 pub enum Place<C> {
-    /// An approval that nobody claimed.
+    /// An approval that is not claimed.
     Unclaimed,
-    /// An approval that was claimed.
+    /// An approval that is claimed.
     Claimed,
-    /// A connection that is idle.
+    /// An idle connection.
     Idle(C),
-    /// A connection that is out, held by the get of this number.
+    /// A checked-out connection, held by the get of this number.
     Held(u64),
-    /// A connection that is out, held by a guard.
+    /// A checked-out connection, held by a guard.
     Guarded,
 }
 
-/// Who holds a connection that is out.
+/// The holder of a checked-out connection.
 #[derive(Clone, Copy)]
 pub enum Holder {
     /// A guard.
@@ -23,22 +23,22 @@ pub enum Holder {
     Get(u64),
 }
 
-/// A record that has not ended.
+/// A record that has not ended: a connection, or an approved connection attempt.
 pub struct Standing<C> {
-    /// Where it stands.
+    /// Its state.
     pub place: Place<C>,
-    /// When its connection was born.
+    /// When its connection was born, in nanoseconds.
     pub birth: u64,
-    /// When it last became idle.
+    /// When it last became idle, in nanoseconds.
     pub entered: u64,
 }
 
-/// Where a get stands that has not ended.
+/// The state of a get that has not ended.
 #[derive(Clone, Copy)]
 pub enum GetPlace {
-    /// It began, or its check failed.
+    /// It has begun, or its check has failed.
     Active,
-    /// It waits, and was notified or not.
+    /// It waits; true if it was notified.
     Waiting(bool),
     /// It checks the connection of this number.
     Holding(u64),
@@ -47,8 +47,8 @@ pub enum GetPlace {
 /// A get that has not ended.
 #[derive(Clone, Copy)]
 pub struct Getting {
-    /// Where it stands.
+    /// Its state.
     pub place: GetPlace,
-    /// When it first waited.
+    /// When it first waited, in nanoseconds; None if it never did.
     pub first_wait: Option<u64>,
 }

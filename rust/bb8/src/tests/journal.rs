@@ -105,6 +105,12 @@ impl<C> Noted<C> {
             .count()
     }
 
+    /// How many connections came too late.
+    pub(crate) fn late(&self) -> u64 {
+        let late = |(_, answer): &&(Event, Answer)| matches!(answer, Answer::Late(_));
+        self.notes.iter().filter(late).count() as u64
+    }
+
     /// Makes the journal wrong: as if the last event had been answered otherwise.
     pub(crate) fn falsify(&mut self) {
         let (_, answer) = self.notes.last_mut().expect("something happened");

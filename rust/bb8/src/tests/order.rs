@@ -121,7 +121,7 @@ fn assert_calm(pool: &Pool<Numbered>) {
     let state = pool.state();
     assert_eq!(state.statistics.pending_gets(), 0);
     assert_eq!((state.connections, state.idle_connections), (1, 1));
-    pool.inner.locked().core.judge();
+    pool.shared().lock().core.judge();
 }
 
 #[tokio::test]
@@ -207,14 +207,14 @@ async fn a_connection_handed_off_at_the_deadline_is_served_or_returned() {
     for check in [false, true] {
         let pool = pool(check, Some(Duration::ZERO)).await;
         let conn = pool.get().await.unwrap();
-        let mut getting = Getting::new(pool.inner.shared());
+        let mut getting = Getting::new(pool.shared());
         assert!(getting.begin(&mut Some(noop_waker())).is_none());
         // Between its last try and its timeout the get is handed the connection.
         drop(conn);
         let got = getting.time_out();
-        assert_eq!(got.is_ok(), !check);
-        if let Ok(checkout) = got {
-            pool.inner.put_back(checkout);
+        assert_eq!(got.is_some(), !check);
+        if let Some(checkout) = got {
+            pool.shared().release(checkout);
         }
         let state = pool.state().statistics;
         let counts = (state.get_waited, state.get_timed_out);

@@ -59,13 +59,14 @@ impl Tally {
     }
 }
 
-/// Compares the state of a pool in which nothing is under way with the counts of then.
-fn compare(state: &State, [opened, dropped, by_manager, added, detached]: [u64; 5]) {
+/// Compares the state of a pool in which nothing is under way with the counts of then, and with how
+/// many connections came too late, which were never the pool's.
+fn compare(state: &State, [opened, dropped, by_manager, added, detached]: [u64; 5], late: u64) {
     let seen = &state.statistics;
-    let created = (seen.connections_created, seen.connections_added);
+    let created = (seen.connections_created + late, seen.connections_added);
     assert_eq!(created, (by_manager, added));
     // Their tasks dropped those that could not be added, and those that were detached.
-    let refused = opened - by_manager - added;
+    let refused = opened - seen.connections_created - added;
     assert_eq!(seen.connections_closed, dropped - refused - detached);
     assert_eq!(seen.connections_detached, detached);
     let ended = seen.connections_closed + detached + u64::from(state.connections);
@@ -151,8 +152,6 @@ struct Weather {
     rounds: u64,
     /// How long a get may take.
     patience: Duration,
-    /// Whether the clock stands but where all tasks sleep.
-    paused: bool,
 }
 
 /// Adds a connection, if the pool takes it.
@@ -218,7 +217,7 @@ async fn calm(pool: &Pool<Wild>, tally: &Tally) -> (State, [u64; 5]) {
     panic!("no calm comes");
 }
 
-async fn storm(weather: Weather) {
+async fn storm(weather: Weather) -> [u64; 16] {
     let tally: Arc<Tally> = Arc::default();
     let manager = Wild {
         dice: Dice::new(0),
@@ -261,39 +260,31 @@ async fn storm(weather: Weather) {
     // Long enough for idle connections to be closed, as nobody takes them.
     sleep(Duration::from_millis(30)).await;
     let (state, outside) = calm(&pool, &tally).await;
+    let late = pool.shared().lock().core.late();
     let seen = &state.statistics;
     assert_eq!(seen.pending_gets(), 0);
-    // By the machine's clock, which limit comes first is the machine's matter.
-    let by_age = seen.connections_closed_max_lifetime;
-    let as_idle = seen.connections_closed_idle_timeout;
-    let ages = match weather.paused {
-        true => [by_age, as_idle],
-        false => [by_age + as_idle; 2],
-    };
+    println!("{weather:?}: {state:?}");
+    compare(&state, outside, late);
     let counts = [
         seen.get_direct,
         seen.get_waited,
         seen.get_timed_out,
         seen.get_cancelled,
         seen.connections_created,
+        seen.connections_added,
+        seen.connections_failed,
         seen.connections_closed_broken,
-        // Hardly one is checked that is fresh so long.
-        seen.connections_closed_invalid
-            + u64::from(!weather.check || !weather.test_after.is_zero()),
-        // With jitter most are past their own ends before.
-        ages[0] + u64::from(weather.jitter > 0.0),
-        // In a fair pool hardly one is idle long enough.
-        ages[1] + u64::from(weather.fair_after.is_some()),
+        seen.connections_closed_invalid,
+        seen.connections_closed_max_lifetime,
+        seen.connections_closed_idle_timeout,
         seen.connections_closed_retired,
+        late,
         seen.connections_detached,
         tally.tried.load(Ordering::SeqCst),
         tally.not_kept.load(Ordering::SeqCst),
     ];
-    println!("{weather:?}: {state:?}");
-    compare(&state, outside);
-    assert!(seen.connections_failed > 0 && seen.connections_added > 0);
-    assert!(counts.iter().all(|count| *count > 0), "{counts:?}");
     close(pool, &tally, weather).await;
+    counts
 }
 
 /// Closes a pool while tasks use it. No connection is left then, and the replay agrees.
@@ -318,13 +309,10 @@ async fn close(pool: Pool<Wild>, tally: &Arc<Tally>, weather: Weather) {
     for task in uses {
         task.await.unwrap();
     }
-    let (state, mut counts) = (pool.state(), tally.counts());
-    // What came too late was never the pool's, as what it refused.
-    assert!(state.statistics.connections_created <= counts[2]);
-    counts[2] = state.statistics.connections_created;
-    compare(&state, counts);
+    let state = pool.state();
     assert_eq!(state.statistics.pending_gets(), 0);
-    let core = &pool.inner.locked().core;
+    let core = &pool.shared().lock().core;
+    compare(&state, tally.counts(), core.late());
     let (steps, asked) = (core.judge(), core.asked());
     println!("{steps} steps, {asked} of them granted asks, are those of the replay");
     assert!(steps as u64 > weather.tasks * weather.rounds);
@@ -352,7 +340,7 @@ const KINDS: [Kind; 12] = [
 
 /// A weather of this kind. In a fair pool hardly a get would time out that waits as long as in
 /// others.
-fn weather((check, test_after, order, fair_after, jitter): Kind, paused: bool) -> Weather {
+fn weather((check, test_after, order, fair_after, jitter): Kind) -> Weather {
     Weather {
         check,
         test_after: Duration::from_millis(test_after),
@@ -362,23 +350,31 @@ fn weather((check, test_after, order, fair_after, jitter): Kind, paused: bool) -
         tasks: 24,
         rounds: 400,
         patience: Duration::from_millis(if fair_after.is_some() { 3 } else { 6 }),
-        paused,
     }
+}
+
+/// All kinds of weather. Everything that is counted happens in some of them; in which ones, is up
+/// to the machine.
+async fn storms() {
+    let mut sums = [0; 16];
+    for kind in KINDS {
+        let counts = storm(weather(kind)).await;
+        sums.iter_mut()
+            .zip(counts)
+            .for_each(|(sum, count)| *sum += count);
+    }
+    assert!(sums.iter().all(|sum| *sum > 0), "{sums:?}");
 }
 
 /// All kinds of weather on four threads.
 #[tokio::test(flavor = "multi_thread", worker_threads = 4)]
 async fn four_threads_by_the_machine_s_clock() {
-    for kind in KINDS {
-        storm(weather(kind, false)).await;
-    }
+    storms().await;
 }
 
 /// The same on one thread, whose clock stands but where all tasks sleep: so ages, timeouts, waits
 /// between tries and reaps come at moments of that clock.
 #[tokio::test(start_paused = true)]
 async fn one_thread_by_a_paused_clock() {
-    for kind in KINDS {
-        storm(weather(kind, true)).await;
-    }
+    storms().await;
 }

@@ -72,7 +72,7 @@ async fn a_try_tells_that_memory_was_refused() {
         drop(refused);
         assert_eq!(pool.state().statistics.get_started, 0);
         assert!(matches!(pool.try_get().await, Ok(Some(_))));
-        assert!(pool.inner.locked().core.judge() > 3);
+        assert!(pool.shared().lock().core.judge() > 3);
     }
 }
 
@@ -89,9 +89,9 @@ async fn a_reap_for_which_memory_was_refused_is_made_up_for() {
     assert!(pool.add(Counting(open.clone()).open()).is_ok());
     assert!(pool.add(Counting(open.clone()).open()).is_ok());
     tokio::time::advance(Duration::from_secs(1)).await;
-    granting(0, || pool.inner.reap());
+    granting(0, || pool.shared().reap());
     assert_eq!(open.load(Ordering::SeqCst), 3);
-    pool.inner.reap();
+    pool.shared().reap();
     assert_eq!(open.load(Ordering::SeqCst), 1);
     granting(0, || drop(pool));
     assert_eq!(open.load(Ordering::SeqCst), 0);
@@ -115,7 +115,7 @@ async fn a_retiring_or_a_close_for_which_memory_was_refused_changes_nothing() {
     let counts = pool.state().statistics;
     let closed = (counts.connections_closed, counts.connections_closed_retired);
     assert_eq!((open.load(Ordering::SeqCst), closed), (0, (3, 0)));
-    assert!(pool.inner.locked().core.judge() > 3);
+    assert!(pool.shared().lock().core.judge() > 3);
 }
 
 /// Three gets and an adding over a pool, each of which may be refused.
@@ -168,7 +168,7 @@ async fn the_replay_follows_a_pool_with_two_checked_out() {
     let first = pool.get().await.unwrap();
     let second = pool.get().await.unwrap();
     drop((first, second));
-    assert!(pool.inner.locked().core.judge() > 8);
+    assert!(pool.shared().lock().core.judge() > 8);
 }
 
 #[tokio::test(start_paused = true)]
@@ -177,7 +177,7 @@ async fn the_judge_sees_a_wrong_answer() {
     let open = Arc::new(AtomicU32::new(0));
     let pool = Pool::builder().build(Counting(open)).await.unwrap();
     drop(pool.get().await.unwrap());
-    let mut locked = pool.inner.locked();
+    let mut locked = pool.shared().lock();
     locked.core.falsify();
     locked.core.judge();
 }

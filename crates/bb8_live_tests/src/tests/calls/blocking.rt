@@ -1,5 +1,4 @@
-//! The gets that answer in one call, and those that are served at their first poll, with the check
-//! and without.
+//! Gets in one call, and gets that are served at their first poll, with and without the check.
 
 use super::{TellerPool, Tools};
 use bb8::{Gets, Memory, PoolCalls, PoolParts, Runtime};
@@ -7,8 +6,8 @@ use std::process::Abort;
 use std::time::Duration;
 
 impl<R: Runtime + Abort> Tools<'_, R> {
-    /// Asserts that just the calls of a get that is served at its first poll were made, with a
-    /// handle of its own or without; and, as it is let go, those of a return.
+    /// Asserts that exactly the callbacks of a get were made that was served at its first poll,
+    /// with or without its own handle; and, when it is dropped, those of a return.
     fn lent<G: Drop>(&self, guard: G, is_owned: bool) {
         self.made(match (self.checks, is_owned) {
             (false, false) => "now",
@@ -24,8 +23,8 @@ impl<R: Runtime + Abort> Tools<'_, R> {
         });
     }
 
-    /// Asserts that just these calls were made for an answer that lends nothing, and none as it is
-    /// let go.
+    /// Asserts that exactly these callbacks were made for a result without a connection, and none
+    /// when it is dropped.
     fn lent_none<A: Drop>(&self, answer: A, calls: &str) {
         self.made(calls);
         drop(answer);
@@ -33,10 +32,10 @@ impl<R: Runtime + Abort> Tools<'_, R> {
     }
 }
 
-/// Each get once where nothing is idle and it is not to wait, and twice where one connection is,
-/// since the first get of a pool finds its connection by another way; and each that waits until its
-/// time has passed. A reading of the clock sets it on by 60 nanoseconds, so 100 have passed at the
-/// second poll, and 200 at the third. At last there is no connection, and one approval is open.
+/// Makes each get once with nothing idle, if it never waits, and twice with one idle connection,
+/// since the first get of a pool takes another path; and each get that waits until it times out. A
+/// clock reading advances the clock by 60 nanoseconds, so 100 have passed at the second poll, and
+/// 200 at the third. At the end there is no connection, and one approval is open.
 pub(super) fn served<R: Runtime + Abort, L: PoolParts>(
     tools: &Tools<'_, R>,
     pool: &TellerPool<R, L>,
@@ -66,9 +65,9 @@ pub(super) fn served<R: Runtime + Abort, L: PoolParts>(
     Ok(())
 }
 
-/// Gets in one call whose check lasts once; one that is not to wait for a check that lasts; and one
-/// that waits, after its check has failed, until its time has passed. At last there is no
-/// connection, and one approval is open.
+/// Makes gets in one call whose check is pending once; one that never waits, with a check that
+/// stays pending; and one that, after its check has failed, waits until it times out. At the end
+/// there is no connection, and one approval is open.
 pub(super) fn unserved<R: Runtime + Abort, L: PoolParts>(
     tools: &Tools<'_, R>,
     pool: &TellerPool<R, L>,

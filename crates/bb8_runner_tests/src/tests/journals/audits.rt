@@ -1,5 +1,5 @@
-//! A history of two seats that was worked out by hand, with its notes, and with each change for
-//! which an audit must say no.
+//! A history of two seats that was worked out by hand, with its notes, and each change of it that
+//! must fail an audit.
 
 use super::event;
 use bb8_core::replay::{Act, Answer, Reason};
@@ -7,7 +7,7 @@ use bb8_journal::journal::{Entry, Notes, audit};
 use std::alloc::{AllocError, Global};
 use std::test::Fail;
 
-/// What a seat made happen at moment 0, and what it was answered.
+/// Returns an entry: an event of a seat at moment 0, and its result.
 fn entry(seat: usize, act: Act, answer: Answer) -> Entry {
     Entry {
         seat,
@@ -16,7 +16,7 @@ fn entry(seat: usize, act: Act, answer: Answer) -> Entry {
     }
 }
 
-/// A get begins and is cancelled while another seat makes a handle.
+/// A get begins and is cancelled while another seat adds a handle.
 fn history() -> [Entry; 4] {
     [
         entry(0, Act::Begin, Answer::Begun(0)),
@@ -30,7 +30,7 @@ fn history() -> [Entry; 4] {
     ]
 }
 
-/// What a seat noted, with no note missing.
+/// Returns the notes of a seat, with no note missing.
 fn notes(alloc: Global, seat: usize, noted: &[(u64, Answer)]) -> Result<Notes, AllocError> {
     let noted = noted.iter().copied().collect(alloc)?;
     Ok(Notes {
@@ -40,7 +40,7 @@ fn notes(alloc: Global, seat: usize, noted: &[(u64, Answer)]) -> Result<Notes, A
     })
 }
 
-/// What the two seats noted of the history.
+/// Returns the notes of the two seats on the history.
 fn both(alloc: Global) -> Result<[Notes; 2], AllocError> {
     Ok([
         notes(

@@ -15,22 +15,22 @@ use std::test::Fail;
 use std::thread;
 use std::thread::{Threads, map_vec};
 
-/// How often the first seat claims, or the second looks for its flag, at most.
+/// How often at most the first seat claims, or the second looks at its flag.
 const TURNS: u64 = 10_000_000;
 
 /// No number was claimed yet.
 const NONE: u64 = u64::MAX;
 
-/// What the two threads share beside the journal.
+/// What the two threads share besides the journal.
 #[derive(Drop)]
 struct Meeting {
-    /// The first claim was made.
+    /// Whether the first claim was made.
     flag: AtomicBool,
-    /// The number that was claimed.
+    /// The claimed number.
     claimed: AtomicU64,
 }
 
-/// Claims, tells the other seat, and claims until it is answered a number.
+/// Claims, signals the other seat, and claims until a number is returned.
 fn claims<R: Wait, L: Recorded>(
     rt: &R,
     journal: &SharedJournal<L>,
@@ -52,7 +52,7 @@ fn claims<R: Wait, L: Recorded>(
     Ok(())
 }
 
-/// Waits for the other seat's first claim, and asks for approvals.
+/// Waits for the other seat's first claim, and requests approvals.
 fn fills<R: Wait, L: Recorded>(
     rt: &R,
     journal: &SharedJournal<L>,
@@ -69,7 +69,7 @@ fn fills<R: Wait, L: Recorded>(
     Ok(())
 }
 
-/// Seat 0 claims, and seat 1 asks for approvals.
+/// Seat 0 claims, and seat 1 requests approvals.
 fn meet<R: Wait, L: Recorded>(
     rt: &R,
     journal: &SharedJournal<L>,
@@ -84,7 +84,7 @@ fn meet<R: Wait, L: Recorded>(
     seat
 }
 
-/// One thread claims what the other was granted meanwhile.
+/// One thread claims what was granted to the other meanwhile.
 fn both<R: Threads + Wait + Abort + AllocGlobal + Sync, L: Recorded + Send + Sync>(
     rt: &R,
     config: Config,
@@ -111,8 +111,8 @@ fn both<R: Threads + Wait + Abort + AllocGlobal + Sync, L: Recorded + Send + Syn
     Ok(())
 }
 
-/// `max_size` 1, `min_idle` 1: one seat's first claim answers none; then the other asks for
-/// approvals, and the first claims until it is answered a number, which is 0; the audit says yes.
+/// `max_size` 1, `min_idle` 1: one seat's first claim returns none; then the other one requests
+/// approvals, and the first claims until it gets a number, which is 0. The audit passes.
 #[test]
 fn seats_meet(rt: HostRuntime) -> Result<(), Fail> {
     let config = unchecked(1, Some(1));

@@ -1,5 +1,5 @@
-//! A run of two seats in which any one request for memory is refused, or all from any on, as
-//! `gate/refusals/run` makes it. The test holds with refusals and without.
+//! A run of two seats in which one request for memory is refused, or all from one on, as
+//! `gate/refusals/run` makes it. The test holds with and without refusals.
 ghost use Rattle.std.specs.Prelude.{◌≡◌, true};
 ghost use Rattle.bb8_types.specs.Settings.{settings_of, is_lawful};
 
@@ -17,7 +17,7 @@ const GETS: usize = 6;
 
 const ROUNDS: u64 = 8;
 
-/// A seat that counts what it made.
+/// A seat that counts its steps.
 #[derive(Drop)]
 struct Maker<L: Recorded> {
     seat: Seat<L>,
@@ -25,7 +25,7 @@ struct Maker<L: Recorded> {
 }
 
 impl<L: Recorded> Maker<L> {
-    /// Makes an event at moment 0, if there is room for it.
+    /// Makes an event at moment 0, if there is memory for it.
     fn makes<R: Wait>(&mut self, rt: &R, journal: &SharedJournal<L>, act: Act) -> Option<Answer> {
         match journal.step(rt, &mut self.seat, event(act)) {
             Ok((_, answer)) => {
@@ -36,7 +36,7 @@ impl<L: Recorded> Maker<L> {
         }
     }
 
-    /// Makes an ending event that fits, for which there is room whatever was refused.
+    /// Makes an ending event that fits. There is memory for it, whatever was refused.
     fn ends<R: Wait + Abort>(&mut self, rt: &R, journal: &SharedJournal<L>, act: Act) {
         let answer = self.makes(rt, journal, act);
         assert!(rt; answer.is_some(), "no room for {act:?}");
@@ -51,7 +51,7 @@ impl<L: Recorded> Maker<L> {
         }
     }
 
-    /// Lets a get try, and answers the connection that it is served.
+    /// Has a get try, and returns the connection that it is served.
     fn tries<R: Wait>(&mut self, rt: &R, journal: &SharedJournal<L>, get: u64) -> Option<u64> {
         match self.makes(rt, journal, Act::Try(get)) {
             Some(Answer::Served(number, _)) => Some(number),
@@ -60,8 +60,8 @@ impl<L: Recorded> Maker<L> {
     }
 }
 
-/// Gets begin by one seat, try by the other, and all end. The connections that were served are
-/// returned, one of them broken, or leave with their guards.
+/// Gets begin on one seat and try on the other, and all end. Served connections are returned, one
+/// of them broken, or leave with their guards.
 fn plays<R: Wait + Abort, L: Recorded>(
     rt: &R,
     journal: &SharedJournal<L>,
@@ -96,7 +96,7 @@ fn plays<R: Wait + Abort, L: Recorded>(
     }
 }
 
-/// How many notes are missing.
+/// Returns how many notes are missing.
 fn missing(notes: &[Notes]) -> u64 {
     let mut count: u64 = 0;
     for note in notes {
@@ -143,7 +143,7 @@ fn plays_rounds<R: Wait + Abort + AllocGlobal, L: Recorded>(rt: &R, config: Conf
     assert_equal(&rt, audit(&entries, &notes), missing(&notes) == 0);
 }
 
-/// Begins, tries, returns and gives-up while any one request for memory is refused.
+/// Begins, tries, returns and give-ups while one request for memory is refused.
 #[test]
 fn ending_events_have_room(rt: HostRuntime) {
     let config = unchecked(3, Some(1));

@@ -18,11 +18,12 @@ const FIRST_TOLD: &str = "\
     audit yes\n\
     state connections 5 idle 5 started 3 direct 3 waited 0 timed_out 0 cancelled 0 wait_us 0 created 5 broken 0 invalid 0 lifetime 0 idle_timeout 0\n";
 
-/// Five connections of which two are to be idle, all idle for the limit of a second at the reap.
+/// Five connections with a `min_idle` of two; all have reached the idle timeout of a second at the
+/// reap.
 const FIVE_IDLE: &str =
     "0 add\n0 add\n0 add\n0 add\n0 add\n1000000000 reap\n1000000000 begin\n1000000000 try 0\n";
 
-/// Worked rows of reaps: the settings, the events, and what the pool tells at the end.
+/// Worked rows of reaps: the settings, the events, and the state at the end.
 const REAPS: [(&str, &str, &str); 6] = [
     (
         "max_size=1 lifetime=1000000000 idle=1000000000",
@@ -57,7 +58,7 @@ const REAPS: [(&str, &str, &str); 6] = [
     ),
 ];
 
-/// Worked rows of what bb8 lacks: the settings, the events, and the state line at the end.
+/// Worked rows of calls that bb8 lacks: the settings, the events, and the state line at the end.
 const OWN: [(&str, &str, &str); 5] = [
     (
         "max_size=1 test_after=1",
@@ -86,7 +87,7 @@ const OWN: [(&str, &str, &str); 5] = [
     ),
 ];
 
-/// What so many threads write of a script, and how it ends.
+/// Returns the output of a script that this many threads run, and its verdict.
 fn run<R: Threads + Wait + AllocGlobal + Sync>(
     rt: &R,
     threads: u8,
@@ -107,7 +108,7 @@ fn run<R: Threads + Wait + AllocGlobal + Sync>(
     }
 }
 
-/// The number after a word of a line of text.
+/// Returns the number after a word of a text.
 fn number_after(text: &str, word: &str) -> Option<u64> {
     let mut words = text.split(' ');
     words.find(|w| *w == word)?;
@@ -158,8 +159,8 @@ fn rows_of_own_events_in_one_thread(rt: HostRuntime) -> Result<(), Fail> {
     Ok(())
 }
 
-/// In 4 and 64 threads: 20 entries, `audit yes`, at most 5 connections, and idle at most
-/// connections.
+/// In 4 and 64 threads: 20 entries, `audit yes`, at most 5 connections, and at most as many idle as
+/// there are connections.
 #[test]
 fn first_script_in_many_threads(rt: HostRuntime) -> Result<(), Fail> {
     for threads in [4, 64] {
@@ -196,7 +197,7 @@ fn tells_a_bad_line(rt: HostRuntime) -> Result<(), Fail> {
     Ok(())
 }
 
-/// A script of 100,000 events, none of which names what another thread has brought about.
+/// Returns a script of 100,000 events, none of which depends on another thread's.
 fn long_script(alloc: Global) -> Result<String, AllocError> {
     let mut text = String::new(alloc);
     writeln!(text, "config max_size=20 min_idle=5 check=off")?;
@@ -222,7 +223,7 @@ fn long_script_in_four_threads(rt: HostRuntime) -> Result<(), Fail> {
     Ok(())
 }
 
-/// What some words ask for.
+/// Returns the mode that these arguments ask for.
 fn asked(alloc: Global, words: &[&str]) -> Result<Option<Mode>, AllocError> {
     let mut list = Vec::new(alloc);
     for word in words {
@@ -231,7 +232,7 @@ fn asked(alloc: Global, words: &[&str]) -> Result<Option<Mode>, AllocError> {
     Ok(arguments(&list))
 }
 
-/// `threads` with 0, 65 or 04 is none that the program takes.
+/// The program does not take `threads` with 0, 65 or 04.
 #[test]
 fn judges_arguments(rt: HostRuntime) -> Result<(), Fail> {
     let alloc = rt.alloc();

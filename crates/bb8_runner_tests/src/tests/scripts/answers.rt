@@ -1,4 +1,4 @@
-//! Texts of answers, and the events that lines spell.
+//! The texts of results, and the events of lines.
 
 use super::assert_equal;
 use bb8_core::api::{Moment, State, Statistics};
@@ -8,7 +8,7 @@ use bb8_runner::text::output;
 use std::test::Fail;
 use std::time::Duration;
 
-/// A line for each form of an answer, and the state line.
+/// A line for each form of a result, and the state line.
 const EACH_ANSWER: &[u8] = b"\
     begun 18446744073709551615\n\
     memory\n\
@@ -57,7 +57,8 @@ fn grant(first: u64, count: u32, withheld: u32) -> Grant {
     }
 }
 
-/// A state whose figures all differ, with a wait time that is not a whole number of microseconds.
+/// Returns a state whose numbers all differ, with a wait time that is not a whole number of
+/// microseconds.
 fn state() -> State {
     State {
         connections: 21,

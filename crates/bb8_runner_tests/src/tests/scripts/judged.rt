@@ -1,4 +1,4 @@
-//! Inputs whose bytes do not show in a transcript, with how each ends and what it writes.
+//! Inputs whose bytes a transcript cannot show, with their verdict and output.
 
 use super::{assert_equal, run};
 use bb8_runner::verdict::Verdict;
@@ -13,7 +13,7 @@ const LINE_TWO: &[u8] = b"line 2: not an event\n";
 
 const LINE_THREE: &[u8] = b"line 3: not an event\n";
 
-/// No line, an empty line, carriage returns, bytes that are no text, and a last line with and
+/// No line, an empty line, carriage returns, bytes that are not text, and a last line with and
 /// without its line feed.
 const JUDGED: [(&[u8], Verdict, &[u8]); 10] = [
     (b"", Verdict::Bad, LINE_ONE),

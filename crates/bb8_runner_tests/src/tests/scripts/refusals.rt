@@ -1,6 +1,6 @@
 //! The first script from bytes to bytes, and a replay of it, whatever requests for memory are
-//! refused, as `gate/refusals/run` makes them. That what is answered is allowed is proved; here it
-//! is the script's answer, or says of a refusal where one was.
+//! refused, as `gate/refusals/run` makes them. That each result is allowed is proved; here it is
+//! the script's result, or reports a refusal if there was one.
 
 use super::assert_equal;
 use crate::tests::FIRST_SCRIPT;
@@ -38,7 +38,7 @@ const FIRST_ANSWERS: &[u8] = b"\
     kept 2\n\
     state connections 5 idle 5 started 3 direct 3 waited 0 timed_out 0 cancelled 0 wait_us 0 created 5 broken 0 invalid 0 lifetime 0 idle_timeout 0\n";
 
-/// A writer that keeps what it is given, up to its size, and takes no memory.
+/// A writer that keeps its bytes, up to its size, and allocates nothing.
 #[derive(Drop)]
 struct Page {
     bytes: [u8; 2048],
@@ -46,7 +46,7 @@ struct Page {
 }
 
 impl Write for Page {
-    /// It takes one byte at a time, and none once it is full.
+    /// Takes one byte at a time, and none once it is full.
     fn write(&mut self, buf: &[u8]) -> io::Result<usize> {
         let (Some(byte), Some(place)) = (buf.first(), self.bytes.get_mut(self.len)) else {
             return Ok(0);
@@ -61,7 +61,7 @@ impl Write for Page {
     }
 }
 
-/// Whether a text has such a part.
+/// Whether a text contains this part.
 fn has(text: &[u8], part: &[u8]) -> bool {
     let mut rest = text;
     for _ in 0..text.len() {
@@ -81,8 +81,8 @@ fn is_refused(alloc: Global) -> bool {
     Box::new(alloc, 0_u8).is_err()
 }
 
-/// Tells of a run that has ended whether it is known to have met no refusal: the first request
-/// after it is granted, and the second is refused. Then it came to its end.
+/// Prints whether the run that has ended certainly met no refusal: the first request after it is
+/// granted, and the second is refused. Then the run must have come to its end.
 fn tell<R: Abort + AllocGlobal + Eprint>(rt: &R, is_whole: bool) {
     if !is_refused(rt.alloc()) && is_refused(rt.alloc()) {
         assert!(rt; is_whole);
@@ -115,7 +115,7 @@ fn script_is_run_or_refused(rt: HostRuntime) {
     tell(&rt, is_whole);
 }
 
-/// Whether an answer tells of a refusal: all numbers are there, so only memory was wanting.
+/// Whether a result reports a refusal. Numbers are never used up here, so memory was refused.
 fn is_refusal(answer: Answer) -> bool {
     match answer {
         Answer::Memory => true,
@@ -126,8 +126,8 @@ fn is_refusal(answer: Answer) -> bool {
     }
 }
 
-/// Replays the first script: whether an answer tells of a refusal, and how many connections came
-/// in. None where there is no memory for the script or the replay.
+/// Replays the first script. Returns whether a result reports a refusal, and how many connections
+/// were opened. None if there is no memory for the script or the replay.
 fn replayed<R: Abort + AllocGlobal>(rt: &R) -> Option<(bool, usize)> {
     let alloc = rt.alloc();
     let lines: Vec<&[u8]> = FIRST_SCRIPT

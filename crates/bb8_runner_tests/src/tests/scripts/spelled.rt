@@ -1,4 +1,4 @@
-//! Lines and the events that they are.
+//! Lines and their events.
 
 use super::assert_equal;
 use bb8_core::api::Moment;

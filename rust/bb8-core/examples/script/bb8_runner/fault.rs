@@ -1,17 +1,17 @@
-//! Why a script was not answered.
+//! The errors of a script run.
 
 use bb8_core::api;
 use crate::kit::AllocError;
 use std::fmt;
 
-/// Why nothing, or not all, was written.
+/// Why nothing was written, or not everything.
 #[derive(Clone, Copy, Debug, PartialEq, Eq)]
 pub enum Fault {
     /// A read failed.
     Read,
-    /// A write failed. A beginning of the output may have gone out.
+    /// A write failed. The beginning of the output may have been written.
     Write,
-    /// Memory was refused for the lists.
+    /// Memory for the lists was refused.
     Memory,
 }
 

@@ -1,4 +1,4 @@
-//! What the lines of a script are read as.
+//! The grammar of a script's lines.
 
 use bb8_core::api::Moment;
 use bb8_core::replay::{Act, Event, Reason};
@@ -6,8 +6,8 @@ use crate::kit::{CollectIn, Vec};
 use crate::kit::{AllocError, Global};
 use std::str;
 
-/// The number that a field is: decimal digits with no sign and no leading zero, at most
-/// 18,446,744,073,709,551,615. None where it is no such number.
+/// Parses a number: decimal digits without sign or leading zero, at most
+/// 18,446,744,073,709,551,615. Returns None for any other field.
 pub fn number(field: &str) -> Option<u64> {
     let [first, rest @ ..] = field.as_bytes() else {
         return None;
@@ -26,7 +26,7 @@ pub fn small_number(field: &str) -> Option<u32> {
     u32::try_from(number(field)?).ok()
 }
 
-/// The verbs with no argument.
+/// Parses the verbs without argument.
 fn plain_act(verb: &str) -> Option<Act> {
     match verb {
         "begin" => Some(Act::Begin),
@@ -45,7 +45,7 @@ fn plain_act(verb: &str) -> Option<Act> {
     }
 }
 
-/// The verbs with a word after them.
+/// Parses the verbs with a word after them.
 fn worded_act(verb: &str, word: &str) -> Option<Act> {
     match (verb, word) {
         ("fill", "claimed") => Some(Act::Fill(true)),
@@ -54,7 +54,7 @@ fn worded_act(verb: &str, word: &str) -> Option<Act> {
     }
 }
 
-/// The verbs with a number after them.
+/// Parses the verbs with a number after them.
 fn numbered_act(verb: &str, n: u64) -> Option<Act> {
     match verb {
         "try" => Some(Act::Try(n)),
@@ -70,7 +70,7 @@ fn numbered_act(verb: &str, n: u64) -> Option<Act> {
     }
 }
 
-/// The verbs with a number and the word `broken` after them.
+/// Parses the verbs with a number and the word `broken` after them.
 fn broken_act(verb: &str, n: u64) -> Option<Act> {
     match verb {
         "err" => Some(Act::CheckedErr(n, true)),
@@ -81,7 +81,7 @@ fn broken_act(verb: &str, n: u64) -> Option<Act> {
     }
 }
 
-/// The verbs with a number and a word after them.
+/// Parses the verbs with a number and a word after them.
 fn flagged_act(verb: &str, arg: &str, word: &str) -> Option<Act> {
     if word != "broken" {
         return None;
@@ -108,13 +108,13 @@ fn event_of_fields(fields: &[&str]) -> Option<Event> {
     Some(Event { at, act })
 }
 
-/// A line's fields: what stands between its spaces. Err where memory was refused.
+/// Returns the fields of a line, which spaces separate. Fails if memory is refused.
 pub fn fields_of(alloc: Global, line: &str) -> Result<Vec<&str>, AllocError> {
     line.split(' ').collect_in(alloc)
 }
 
-/// The event that a line is: a moment, a verb and its arguments. None where it is no event, Err
-/// where memory was refused.
+/// Parses an event: a moment, a verb and its arguments. Returns None for any other line. Fails if
+/// memory is refused.
 pub fn event_of(alloc: Global, line: &[u8]) -> Result<Option<Event>, AllocError> {
     let Ok(text) = str::from_utf8(line) else {
         return Ok(None);

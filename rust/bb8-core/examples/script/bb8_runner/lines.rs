@@ -7,20 +7,20 @@ use bb8_core::replay::Event;
 use crate::kit::{CollectIn, Vec};
 use crate::kit::{AllocError, AllocFailed, Global};
 
-/// A configuration, and what happens to a pool that holds to it.
+/// A configuration, and the events of a pool with it.
 pub struct Script {
-    /// The configuration, of the first line.
+    /// The configuration, from the first line.
     pub config: Config,
-    /// The events, of the other lines.
+    /// The events, from the other lines.
     pub events: Vec<Event>,
 }
 
-/// Why there is no script.
+/// Why the input is not a script.
 #[derive(Clone, Copy)]
 pub enum NoScript {
     /// Memory was refused.
     Memory,
-    /// The first bad line, counted from 1.
+    /// The number of the first bad line, counted from 1.
     BadLine(u64),
 }
 
@@ -36,7 +36,7 @@ impl<T> From<AllocFailed<T>> for NoScript {
     }
 }
 
-/// The input but for a last line feed.
+/// Returns the input without its last line feed.
 fn without_line_feed(input: &[u8]) -> &[u8] {
     if let Some((last, front)) = input.split_last() {
         if *last == b'\n' {
@@ -50,9 +50,9 @@ fn pieces_of(alloc: Global, input: &[u8]) -> Result<Vec<&[u8]>, AllocError> {
     input.split(|b| *b == b'\n').collect_in(alloc)
 }
 
-/// The lines of an input. A line feed ends a line, and the last line may lack it. No input is one
-/// empty line. The cut is made on bytes, so that bytes that are no text make only their own line
-/// bad. Err where memory was refused.
+/// Returns the lines of an input. A line feed ends each line, and may be missing after the last
+/// one. An empty input is one empty line. The input is split as bytes, so bytes that are not text
+/// make only their own line bad. Fails if memory is refused.
 pub fn lines_of(alloc: Global, input: &[u8]) -> Result<Vec<&[u8]>, AllocError> {
     pieces_of(alloc, without_line_feed(input))
 }
@@ -70,8 +70,8 @@ fn events_of(alloc: Global, lines: &[&[u8]]) -> Result<Vec<Event>, NoScript> {
     Ok(events)
 }
 
-/// The script that the lines are: a configuration, which a pool can hold to, and an event a line.
-/// Err where memory was refused, or with the first bad line.
+/// Parses a script: a valid configuration, and one event per line. Fails if memory is refused, or
+/// with the first bad line.
 pub fn script_of(alloc: Global, lines: &[&[u8]]) -> Result<Script, NoScript> {
     let [first, others @ ..] = lines else {
         return Err(NoScript::BadLine(1));

@@ -1,28 +1,28 @@
-//! What a script's first line has set so far.
+//! The settings read so far from a script's first line.
 
 use bb8_core::api::QueueStrategy;
 
-/// What is set in place of the defaults; a setting that is not set is None.
+/// The settings that replace defaults; None if a setting is not set.
 #[derive(Clone, Copy)]
 pub struct Overrides {
-    /// How many connections and open approvals there are at most.
+    /// The maximum of connections and open approvals together.
     pub max_size: Option<u32>,
-    /// How many idle connections the pool tries for, if for any.
+    /// The number of idle connections that the pool tries to keep, if any.
     pub min_idle: Option<Option<u32>>,
-    /// Whether a connection is checked before it is handed out.
+    /// Whether a connection is checked before it is checked out.
     pub check: Option<bool>,
-    /// How many nanoseconds a connection is idle before it is checked.
+    /// How long a connection is idle before it is checked, in nanoseconds.
     pub test_after: Option<u64>,
-    /// After how many nanoseconds since its birth a connection is closed, if ever.
+    /// The age at which a connection is closed, in nanoseconds, if any.
     pub lifetime: Option<Option<u64>>,
-    /// After how many nanoseconds since its last entry an idle connection is closed, if ever.
+    /// The idle time after which a connection is closed, in nanoseconds, if any.
     pub idle: Option<Option<u64>>,
-    /// How many nanoseconds a get waits.
+    /// How long a get waits, in nanoseconds.
     pub timeout: Option<u64>,
-    /// How many nanoseconds the ticks of the reaper are apart.
+    /// The time between two runs of the reaper, in nanoseconds.
     pub reaper: Option<u64>,
-    /// Whether a failed connect is tried again.
+    /// Whether a failed connect is retried.
     pub retry: Option<bool>,
-    /// Which idle connection is handed out first.
+    /// Which idle connection is checked out first.
     pub strategy: Option<QueueStrategy>,
 }

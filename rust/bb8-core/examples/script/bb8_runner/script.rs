@@ -1,4 +1,4 @@
-//! A script from bytes to bytes.
+//! A script run from bytes to bytes.
 
 use crate::bb8_runner::fault::Fault;
 use crate::bb8_runner::lines::{NoScript, lines_of, script_of};
@@ -10,7 +10,7 @@ use bb8_core::replay::replay;
 use crate::kit::String;
 use crate::kit::Global;
 
-/// What is written for an input.
+/// Returns the output for an input.
 fn answer(alloc: Global, input: &[u8]) -> Result<(Verdict, String), Fault> {
     let lines = lines_of(alloc, input)?;
     match script_of(alloc, lines.as_slice()) {
@@ -25,12 +25,12 @@ fn answer(alloc: Global, input: &[u8]) -> Result<(Verdict, String), Fault> {
     }
 }
 
-/// Reads a script to its end, and writes the answers of a run of it and the state that it ended in,
-/// or which line is the first bad one.
+/// Reads a script to its end, runs it, and writes the results and the final state; or the number of
+/// the first bad line.
 ///
-/// `Read` comes where a read failed, `Write` where a write failed, and `Memory` where a list could
-/// not grow. Nothing is written before the whole input was read and judged, so only after `Write`
-/// may a beginning of the output have gone out. Upstream has no scripts.
+/// Fails with `Read` if a read fails, `Write` if a write fails, `Memory` if a list cannot grow.
+/// Nothing is written before the whole input has been read and parsed, so only after `Write` the
+/// beginning of the output may have been written. bb8 has no scripts.
 pub fn run_script<R: Source, W: Sink>(
     alloc: Global,
     reader: &mut R,

@@ -1,4 +1,4 @@
-//! The lines that a script's answers print as.
+//! The output lines of a script.
 
 use bb8_core::api::{Moment, State, Statistics};
 use bb8_core::internals::Grant;
@@ -8,7 +8,7 @@ use crate::kit::{AllocError, Global};
 use std::fmt;
 use std::fmt::Write;
 
-/// What was granted and what was withheld; nothing is printed of either where it is 0.
+/// The approvals granted and those withheld; neither is printed if it is 0.
 #[derive(Clone, Copy)]
 struct GrantPart(Grant);
 
@@ -29,7 +29,7 @@ impl fmt::Display for GrantPart {
     }
 }
 
-/// Which get was notified, if one was.
+/// The notified get, if there is one.
 #[derive(Clone, Copy)]
 struct NotifiesPart(Option<u64>);
 
@@ -42,7 +42,7 @@ impl fmt::Display for NotifiesPart {
     }
 }
 
-/// How many connections there are.
+/// The counts of connections.
 #[derive(Clone, Copy)]
 struct SizesPart(State);
 
@@ -54,7 +54,7 @@ impl fmt::Display for SizesPart {
     }
 }
 
-/// What became of gets.
+/// The counts of gets.
 #[derive(Clone, Copy)]
 struct GetsPart(Statistics);
 
@@ -75,7 +75,7 @@ impl fmt::Display for GetsPart {
     }
 }
 
-/// How long gets waited, in whole microseconds, and how many connections were opened.
+/// How long gets waited, in whole microseconds, and the count of opened connections.
 #[derive(Clone, Copy)]
 struct OpenedPart(Statistics);
 
@@ -87,7 +87,7 @@ impl fmt::Display for OpenedPart {
     }
 }
 
-/// Why connections were closed.
+/// The counts of closed connections, by reason.
 #[derive(Clone, Copy)]
 struct ClosedPart(Statistics);
 
@@ -104,7 +104,7 @@ impl fmt::Display for ClosedPart {
     }
 }
 
-/// How many connections were retired, and how many left the pool.
+/// The counts of retired and detached connections.
 #[derive(Clone, Copy)]
 struct GonePart(Statistics);
 
@@ -141,7 +141,7 @@ impl fmt::Display for StateText {
     }
 }
 
-/// The line of an answer.
+/// The line of a result.
 #[derive(Clone, Copy)]
 struct AnswerText(Answer);
 
@@ -197,8 +197,8 @@ impl fmt::Display for AnswerText {
     }
 }
 
-/// What a script that ran prints: a line for each answer, and the state line. Err where memory was
-/// refused.
+/// Returns the output of a script that ran: a line for each result, and the state line. Fails if
+/// memory is refused.
 pub fn output(alloc: Global, answers: &[Answer], last: State) -> Result<String, AllocError> {
     let mut text = String::new(alloc);
     for answer in answers {
@@ -208,7 +208,7 @@ pub fn output(alloc: Global, answers: &[Answer], last: State) -> Result<String, 
     Ok(text)
 }
 
-/// What is told of the first bad line, whose number counts from 1. Err where memory was refused.
+/// Returns the message about the first bad line, counted from 1. Fails if memory is refused.
 pub fn bad_line(alloc: Global, number: u64) -> Result<String, AllocError> {
     if number == 1 {
         format!(in alloc; "line {number}: not a configuration\n")

@@ -1,10 +1,10 @@
-//! How a script ended.
+//! The outcome of a script.
 
 /// What was written.
 #[derive(Clone, Copy, Debug, PartialEq, Eq)]
 pub enum Verdict {
-    /// The answers of a run, and the state that it ended in.
+    /// The results of a run, and the final state.
     Ran,
-    /// The one line that names the first bad line.
+    /// One line that names the first bad line.
     Bad,
 }

@@ -1,4 +1,4 @@
-//! What several steps decide or do in common.
+//! Decisions and changes that several steps share.
 
 use crate::bb8_tables::Lendings;
 use crate::bb8_tables::gets::Gets;
@@ -9,7 +9,7 @@ use crate::bb8_types::grants::Grant;
 use crate::bb8_types::standing::Holder;
 use std::time::Duration;
 
-/// How many approvals a grant is to make.
+/// Returns how many approvals a grant should make.
 #[inline]
 fn due(config: &Config, handles: u64, taken: u64, asked: u64) -> u64 {
     if handles == 0 {
@@ -19,7 +19,7 @@ fn due(config: &Config, handles: u64, taken: u64, asked: u64) -> u64 {
     }
 }
 
-/// How many approvals are due of those that are wanted, while a handle is alive.
+/// Returns how many of the wanted approvals are due, while a handle is alive.
 pub(super) fn want_with_handle<C>(config: &Config, records: &Records<C>) -> u64 {
     let Some(least) = config.min_idle else {
         return 0;
@@ -32,7 +32,7 @@ pub(super) fn want_with_handle<C>(config: &Config, records: &Records<C>) -> u64 
     (least as u64).saturating_sub(records.ready()).min(room)
 }
 
-/// How many approvals are due of those that are wanted.
+/// Returns how many of the wanted approvals are due.
 pub(super) fn want<C>(config: &Config, handles: u64, records: &Records<C>) -> u64 {
     if handles == 0 {
         0
@@ -41,8 +41,8 @@ pub(super) fn want<C>(config: &Config, handles: u64, records: &Records<C>) -> u6
     }
 }
 
-/// How many approvals are due to a get that waits: one is asked for where gets outnumber open
-/// approvals.
+/// Returns how many approvals are due to a get that waits: one is requested if there are more gets
+/// than open approvals.
 pub(super) fn due_waiting<C>(
     config: &Config,
     handles: u64,
@@ -53,8 +53,8 @@ pub(super) fn due_waiting<C>(
     due(config, handles, records.used(), asked)
 }
 
-/// How many approvals are due to so many waiters that were not notified: as many are asked for as
-/// have no open approval.
+/// Returns how many approvals are due to `waiting` unnotified waiters: those without an open
+/// approval request one each.
 pub(super) fn due_asked<C>(
     config: &Config,
     handles: u64,
@@ -65,7 +65,7 @@ pub(super) fn due_asked<C>(
     due(config, handles, records.used(), asked)
 }
 
-/// The greatest age, in nanoseconds, at which this limit is not reached.
+/// Returns the greatest age, in nanoseconds, that does not reach a limit.
 pub(super) fn greatest_age(limit: Option<Duration>) -> u64 {
     match limit {
         None => u64::MAX,
@@ -73,20 +73,20 @@ pub(super) fn greatest_age(limit: Option<Duration>) -> u64 {
     }
 }
 
-/// What a reap holds to that ends all idle connections: each has lived too long.
+/// Returns the configuration for a reap that ends all idle connections: each lives too long.
 pub(super) fn retiring(config: &Config) -> Config {
     let mut all = *config;
     all.max_lifetime = Some(Duration::from_nanos(0));
     all
 }
 
-/// Whether one of both holds.
+/// Returns whether at least one holds.
 #[inline]
 pub(super) fn either(a: bool, b: bool) -> bool {
     a || b
 }
 
-/// Whether a connection of this birth has lived too long.
+/// Returns whether a connection with this birth lives too long.
 pub(super) fn is_expired(config: &Config, now: u64, birth: u64) -> bool {
     match config.max_lifetime {
         None => false,
@@ -94,14 +94,14 @@ pub(super) fn is_expired(config: &Config, now: u64, birth: u64) -> bool {
     }
 }
 
-/// Notifies the oldest waiter that was not notified, where the test passes.
+/// Notifies the longest waiter that was not notified, if the test passes.
 #[inline]
 pub(super) fn notify_next_if(gets: &mut Gets, test: bool, lendings: &mut Lendings) -> Option<GetKey> {
     if test { gets.notify(lendings) } else { None }
 }
 
-/// Whether the connection that is first of the idle ones is checked before a get is served with it.
-/// One entry is lent where its time in idleness decides.
+/// Returns whether the first idle connection must be checked before a get is served with it. Reads
+/// one entry if its idle time decides.
 #[inline(always)]
 pub(super) fn checks_first<C>(
     config: &Config,
@@ -122,14 +122,14 @@ pub(super) fn checks_first<C>(
     }
 }
 
-/// Whether a connection whose check was cut off counts as broken.
+/// Returns whether a connection whose check was cut off counts as broken.
 #[inline]
 pub(super) fn is_doubtful(config: &Config, broken: bool) -> bool {
     broken || !config.test_after.is_zero()
 }
 
-/// Who holds a connection that a try takes out: the get, where it is checked before the get is
-/// served with it.
+/// Returns the holder of a connection that a try takes: the get if it must be checked first,
+/// otherwise a guard.
 pub(super) fn holder(checked: bool, get: GetKey) -> Holder {
     if checked {
         Holder::Get(get.number)
@@ -138,7 +138,7 @@ pub(super) fn holder(checked: bool, get: GetKey) -> Holder {
     }
 }
 
-/// Ends a connection that was out, and grants what is wanted then.
+/// Ends a checked-out connection, and grants what is wanted then.
 #[inline(always)]
 pub(super) fn close_and_grant<C>(
     config: &Config,

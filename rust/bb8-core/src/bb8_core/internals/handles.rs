@@ -1,14 +1,15 @@
-//! What a pool tells of itself, and its handles.
+//! The statistics of a pool, and its handles.
 
 use super::{ClosedList, JoinAnswer, LeaveAnswer, Looked, PoolInternals, Unfit};
+use crate::bb8_tables::Lendings;
 use crate::bb8_types::api::{Moment, State};
 
 impl<C, A> PoolInternals<C, A> {
-    /// What the pool tells of itself.
+    /// Returns the size and the statistics of the pool.
     pub fn state(&mut self, at: Moment) -> State {
         self.limits();
         self.latest = self.latest.max(at.0);
-        self.lendings.start();
+        self.lendings.end(Lendings::none());
         State {
             connections: self.records.connections(),
             idle_connections: self.records.idle_connections(),
@@ -16,14 +17,15 @@ impl<C, A> PoolInternals<C, A> {
         }
     }
 
-    /// Adds a handle, where fewer than 4,294,967,295 are alive. Where none is nothing changes.
+    /// Adds a handle, if fewer than 4,294,967,295 are alive. If none is, nothing changes.
     pub fn join(&mut self, at: Moment) -> Result<JoinAnswer, Unfit> {
         self.limits();
         if !self.fits_join() {
+            self.lendings.end_unfit(Lendings::none());
             return Err(Unfit);
         }
         self.latest = self.latest.max(at.0);
-        self.lendings.start();
+        self.lendings.end(Lendings::none());
         if self.handles >= u32::MAX as u64 {
             return Ok(JoinAnswer::Exhausted);
         }
@@ -31,22 +33,23 @@ impl<C, A> PoolInternals<C, A> {
         Ok(JoinAnswer::Joined)
     }
 
-    /// Takes a handle away. With the last one all idle connections and all unclaimed approvals end;
-    /// the connections are dropped here. Where no handle is alive nothing changes.
+    /// Drops a handle. With the last one all idle connections and all unclaimed approvals end; the
+    /// connections are dropped here. If no handle is alive, nothing changes.
     pub fn leave(&mut self, at: Moment) -> Result<LeaveAnswer, Unfit> {
         self.limits();
         if !self.fits_leave() {
+            self.lendings.end_unfit(Lendings::none());
             return Err(Unfit);
         }
         let mut dropped = self.records.no_list();
         Ok(self.leave_into(at, &mut dropped))
     }
 
-    /// Leaves as `leave` does, and puts the connections that it closes into a list, in line. What
-    /// the list has no room for is dropped.
+    /// As `leave`, but moves the connections that it closes into a list, the longest idle first.
+    /// Those for which the list has no room are dropped.
     pub fn leave_into(&mut self, at: Moment, closed: &mut ClosedList<C>) -> LeaveAnswer {
         self.latest = self.latest.max(at.0);
-        self.lendings.start();
+        self.lendings.end(Lendings::none());
         if self.handles == 1 {
             self.handles = 0;
             self.closed_below = u64::MAX;
@@ -56,33 +59,34 @@ impl<C, A> PoolInternals<C, A> {
         LeaveAnswer::Left(0)
     }
 
-    /// Closes the pool: takes all handles away at once. All idle connections and all unclaimed
-    /// approvals end, as with the last handle that leaves; the connections are dropped here. Where
-    /// no handle is alive nothing changes.
+    /// Closes the pool: drops all handles at once. All idle connections and all unclaimed approvals
+    /// end, as with the last handle; the connections are dropped here. If no handle is alive,
+    /// nothing changes.
     pub fn close(&mut self, at: Moment) -> Result<LeaveAnswer, Unfit> {
         self.limits();
         if !self.fits_close() {
+            self.lendings.end_unfit(Lendings::none());
             return Err(Unfit);
         }
         let mut dropped = self.records.no_list();
         Ok(self.close_into(at, &mut dropped))
     }
 
-    /// Closes as `close` does, and puts the connections that it closes into a list, in line. What
-    /// the list has no room for is dropped.
+    /// As `close`, but moves the connections that it closes into a list, the longest idle first.
+    /// Those for which the list has no room are dropped.
     pub fn close_into(&mut self, at: Moment, closed: &mut ClosedList<C>) -> LeaveAnswer {
         self.latest = self.latest.max(at.0);
-        self.lendings.start();
+        self.lendings.end(Lendings::none());
         self.handles = 0;
         self.closed_below = u64::MAX;
         LeaveAnswer::Left(self.records.leave(closed))
     }
 
-    /// The effective moment, and whether a handle is alive.
+    /// Returns the effective moment, and whether a handle is alive.
     pub fn look(&mut self, at: Moment) -> Looked {
         self.limits();
         self.latest = self.latest.max(at.0);
-        self.lendings.start();
+        self.lendings.end(Lendings::none());
         Looked {
             moment: Moment(self.latest),
             alive: self.handles > 0,

@@ -1,124 +1,123 @@
-//! What happens to a pool, by plain numbers, and what it answers.
+//! The events of a replay and their results, with plain numbers.
 
 use crate::bb8_types::api::{Moment, State};
 use crate::bb8_types::grants::Grant;
 use crate::bb8_types::reasons::Reason;
 
-/// What happens to a pool. Gets, connections and approvals are named by their numbers.
+/// The kinds of events. Gets, connections and approvals are named by their numbers.
 #[derive(Clone, Copy, Debug, PartialEq, Eq)]
 pub enum Act {
     /// A get begins.
     Begin,
-    /// The get tries to take an idle connection, or else waits.
+    /// The get takes an idle connection, or else waits.
     Try(u64),
-    /// The check of the connection that the get holds was passed.
+    /// The check of the connection that the get holds passed.
     CheckedOk(u64),
-    /// The check of the connection that the get holds failed; it may be broken.
+    /// The check of the connection that the get holds failed; whether the connection is broken.
     CheckedErr(u64, bool),
-    /// The get is given up; the connection that it holds, if it holds one, may be broken.
+    /// The get ends without being served; whether the connection that it holds, if any, is broken.
     GiveUp(u64, Reason, bool),
-    /// The guard of the connection gives it back; it may be broken.
+    /// The guard of the connection returns it; whether it is broken.
     PutBack(u64, bool),
-    /// The guard of the connection leaves with it for good.
+    /// The guard of the connection detaches it.
     Detach(u64),
-    /// Approvals are asked for, up to `min_idle`; they may be claimed at once.
+    /// Approvals are requested up to `min_idle`; whether they are claimed at once.
     Fill(bool),
-    /// What waiters lack is granted.
+    /// The approvals that waiters lack are granted.
     Ask,
-    /// The unclaimed approval of the least number is claimed.
+    /// The unclaimed approval with the lowest number is claimed.
     Claim,
-    /// The claimed approval brought a connection.
+    /// The attempt of the claimed approval succeeded.
     Opened(u64),
-    /// The claimed approval brought no connection.
+    /// The attempt of the claimed approval failed.
     Failed(u64),
-    /// A connection is added that no approval brought; it may be broken.
+    /// A connection without an approval is added; whether it is broken.
     Add(bool),
-    /// Idle connections are closed that have been idle too long or live too long.
+    /// Idle connections that have been idle or live too long are closed.
     Reap,
-    /// All connections and approvals are retired that have numbers now.
+    /// All connections and approvals that have numbers now are retired.
     Retire,
-    /// The pool is asked what it tells of itself.
+    /// The size and the statistics are read.
     State,
-    /// One handle more is made.
+    /// A handle is added.
     Join,
     /// A handle is dropped.
     Leave,
     /// The pool is closed.
     Close,
-    /// The pool is asked for its moment, and whether a handle is alive.
+    /// The effective moment is read, and whether a handle is alive.
     Look,
 }
 
-/// Something that happens to a pool at a moment.
+/// An event at a moment.
 #[derive(Clone, Copy, Debug, PartialEq, Eq)]
 pub struct Event {
-    /// When it happens. A moment before that of an earlier event counts as that one.
+    /// Its moment. One before that of an earlier event counts as the later one.
     pub at: Moment,
-    /// What happens.
+    /// Its kind.
     pub act: Act,
 }
 
-/// What a pool answers; the get that a step notified is named where there is one.
+/// The results of events. The get that a step notified is named if there is one.
 #[derive(Clone, Copy, Debug, PartialEq, Eq)]
 pub enum Answer {
-    /// The get that began.
+    /// The number of the get.
     Begun(u64),
-    /// No memory for the get.
+    /// Memory for the get was refused.
     Memory,
-    /// No number is left for the get, or as many handles are alive as may be.
+    /// No number is left for the get; or the maximum of handles is alive.
     Exhausted,
-    /// The connection that the get was served, and what was granted.
+    /// The connection with which the get was served; the grant.
     Served(u64, Grant),
-    /// The connection that the get holds to check it, and what was granted.
+    /// The connection that the get holds to check it; the grant.
     Taken(u64, Grant),
-    /// The get waits, and what was granted.
+    /// The get waits; the grant.
     Waiting(Grant),
-    /// The connection is idle again, and whom that notified.
+    /// The connection is idle again; the notified get.
     Kept(u64, Option<u64>),
-    /// The connection is closed, what was granted, and whom that notified.
+    /// The connection is closed; the grant; the notified get.
     Closed(u64, Grant, Option<u64>),
-    /// The get ended, and whom that notified.
+    /// The get ended; the notified get.
     GaveUp(Option<u64>),
-    /// What was granted.
+    /// The grant.
     Granted(Grant),
-    /// The approval that was claimed, if one was there.
+    /// The approval that was claimed, if one was unclaimed.
     Claimed(Option<u64>),
     /// No handle is alive.
     Ended,
-    /// The approval became an idle connection, and whom that notified.
+    /// The approval became an idle connection; the notified get.
     Entered(u64, Option<u64>),
-    /// The approval ended, as no handle is alive.
+    /// The approval ended, because it was retired, or no handle is alive.
     Late(u64),
-    /// The approval ended, as it brought no connection.
+    /// The approval ended, because its attempt failed.
     GivenBack,
-    /// The number of the connection that was added, and whom that notified.
+    /// The number of the connection that was added; the notified get.
     Added(u64, Option<u64>),
-    /// A broken connection was not added.
+    /// A broken connection was refused.
     Broken,
-    /// There is no room for one more connection.
+    /// No slot is free for one more connection.
     NoCapacity,
-    /// No memory, or no number, for one more connection.
+    /// No memory or no number for one more connection.
     Withheld,
     /// Connections were closed.
     Reaped {
-        /// How many.
+        /// Their count.
         closed: u32,
-        /// How many of them had been idle for the `idle_timeout`, and had not lived for the
-        /// `max_lifetime`.
+        /// The count of those that exceeded `idle_timeout` but not `max_lifetime`.
         by_idle: u32,
-        /// How many of them had lived for the `max_lifetime`.
+        /// The count of those that exceeded `max_lifetime`.
         by_life: u32,
-        /// What was granted then.
+        /// The grant of that step.
         grant: Grant,
     },
-    /// What the pool tells of itself.
+    /// The size and the statistics of the pool.
     Shown(State),
-    /// There is one handle more.
+    /// There is one more handle.
     Joined,
-    /// There is one handle less, and so many idle connections ended with it.
+    /// A handle was dropped, or all were; this many idle connections ended with the last one.
     Left(u32),
     /// The effective moment, and whether a handle is alive.
     Looked(Moment, bool),
-    /// The event does not fit, and changed nothing.
+    /// The event does not fit, and has changed nothing.
     Unfit,
 }

@@ -1,5 +1,5 @@
-//! The reap of idle connections, by two walks: along the line of the idle, and along the order of
-//! births.
+//! The reap of idle connections: one walk along the order of births, one along the queue of idle
+//! connections.
 
 use super::{Records, close_idle_at};
 use crate::bb8_tables::closed::ClosedList;
@@ -8,33 +8,33 @@ use crate::bb8_types::api::Config;
 use crate::bb8_types::standing::{Place, Standing};
 use std::time::Duration;
 
-/// What a reap ended.
+/// The result of a reap.
 #[derive(Clone, Copy, Debug, PartialEq, Eq)]
 pub struct Reaped {
-    /// How many connections ended.
+    /// The count of closed connections.
     pub closed: u32,
-    /// How many of them had been idle too long.
+    /// The count of those that were idle too long.
     pub by_idle: u32,
-    /// How many of them had lived too long.
+    /// The count of those that lived too long.
     pub by_life: u32,
 }
 
-/// What is found at a place in the order of births, and the place after it.
+/// A connection met in the order of births, and the index after it.
 enum Age {
-    /// A connection that does not live too long, and so does none after it.
+    /// It does not live too long, so none after it does.
     Young,
-    /// One that lives too long and is out.
+    /// It lives too long and is checked out.
     Out(Option<usize>),
-    /// One that lives too long and is idle.
+    /// It lives too long and is idle.
     Aged(Option<usize>),
 }
 
-/// Whether a limit is reached, where it is set.
+/// Returns whether a limit is reached; never if none is set.
 #[inline]
 fn is_past(limit: Option<Duration>, span: u64) -> bool {
     match limit {
         None => false,
-        // Of a younger one the whole seconds tell it, in 64 bits.
+        // If the limit is more than a second away, its whole seconds decide, in 64 bits.
         Some(limit) => {
             limit.as_secs().saturating_mul(1_000_000_000) <= span
                 && limit.as_nanos() <= span as u128
@@ -49,17 +49,17 @@ fn is_idle<C>(place: &Place<C>) -> bool {
     }
 }
 
-/// Whether a record is idle, and is so too long.
+/// Returns whether a record is idle, and for too long.
 fn idles_out<C>(config: &Config, now: u64, standing: &Standing<C>) -> bool {
     is_idle(&standing.place) && is_past(config.idle_timeout, now.saturating_sub(standing.entered))
 }
 
-/// Whether a record is idle and lives too long.
+/// Returns whether a record is idle and lives too long.
 fn lives_out<C>(config: &Config, now: u64, standing: &Standing<C>) -> bool {
     is_idle(&standing.place) && is_past(config.max_lifetime, now.saturating_sub(standing.birth))
 }
 
-/// What is found at a place in the order of births. One entry is lent.
+/// Classifies the connection at an index in the order of births. Reads one entry.
 fn pass_birth<C>(
     slots: &Table<Standing<C>>,
     place: usize,
@@ -80,8 +80,8 @@ fn pass_birth<C>(
 }
 
 impl<C> Records<C> {
-    /// Ends the idle connection that entered first, where it is idle too long, and tells whether.
-    /// One entry is lent, where one is idle.
+    /// Ends the connection that has been idle longest if that is too long. Returns whether it did.
+    /// Reads one entry if one is idle.
     fn reap_first(
         &mut self,
         config: &Config,
@@ -101,9 +101,9 @@ impl<C> Records<C> {
         true
     }
 
-    /// Ends the connections that are idle too long, from the one that entered first to the first
-    /// that is not, but spares `min_idle` idle ones. An entry is lent for each of them, and at most
-    /// one more; none where no limit is set.
+    /// Ends the connections that are idle too long, the longest idle first, until one is not or
+    /// `min_idle` idle ones are left. Returns their count. Reads an entry for each of them, and at
+    /// most one more; none if no limit is set.
     fn reap_idle(
         &mut self,
         config: &Config,
@@ -127,9 +127,9 @@ impl<C> Records<C> {
         many
     }
 
-    /// Ends the idle connections that live too long, from the one that was born first to the first
-    /// that does not, and passes those that are out. An entry is lent for each of both, and at most
-    /// one more; none where no limit is set.
+    /// Ends the idle connections that live too long, the oldest first, until one does not; skips
+    /// those that are checked out. Returns their count. Reads an entry for each ended and each
+    /// skipped one, and at most one more; none if no limit is set.
     fn reap_aged(
         &mut self,
         config: &Config,
@@ -158,9 +158,9 @@ impl<C> Records<C> {
         many
     }
 
-    /// Ends each idle connection that lives too long, and then those that are idle too long but for
-    /// `min_idle`, the one that entered first before the others, and offers them to a list. Entries
-    /// are lent for those that end, for those that are out, and for two more at most.
+    /// Ends each idle connection that lives too long, then those that are idle too long, the
+    /// longest idle first, sparing `min_idle`. Offers them to a list. Reads an entry for each
+    /// connection that ends or is checked out, and at most two more.
     pub fn reap(
         &mut self,
         config: &Config,

@@ -1,8 +1,8 @@
-//! What a pool holds to.
+//! The configuration of a pool.
 
 use std::time::Duration;
 
-/// Which idle connection is handed out first. As upstream.
+/// Which idle connection is checked out first. As in bb8.
 #[derive(Clone, Copy, Debug, PartialEq, Eq)]
 pub enum QueueStrategy {
     /// The one that has been idle longest.
@@ -17,36 +17,34 @@ impl Default for QueueStrategy {
     }
 }
 
-/// What a pool holds to. The fields and their defaults are upstream's; spans of time are whole
-/// nanoseconds of the pool's clock, and one of more than 18,446,744,073,709,551,615 nanoseconds is
-/// never reached.
+/// The configuration of a pool. Fields and defaults are bb8's, except for `test_after`. Durations
+/// are whole nanoseconds of the pool's clock; one of more than 18,446,744,073,709,551,615
+/// nanoseconds is never reached.
 #[derive(Clone, Copy, Debug)]
 pub struct Config {
-    /// How many connections and open approvals there are at most. 10 by default.
+    /// The maximum of connections and open approvals together. 10 by default.
     pub max_size: u32,
-    /// How many idle connections the pool tries for, and leaves idle whatever `idle_timeout` says.
-    /// None, which counts as 0, by default.
+    /// The number of idle connections that the pool tries to keep. `idle_timeout` closes none of
+    /// these. None, which counts as 0, by default.
     pub min_idle: Option<u32>,
-    /// Whether a connection is checked before it is handed out. On by default.
+    /// Whether a connection is checked before it is checked out. On by default.
     pub test_on_check_out: bool,
-    /// How long after its last entry into the idle ones a connection is checked, where
-    /// `test_on_check_out` is on; before that it is handed out unchecked. 0 by default: each is
-    /// checked. Our own.
+    /// How long a connection must have been idle to be checked, if `test_on_check_out` is on.
+    /// Before that it is checked out without a check. 0 by default: each is checked. Not in bb8.
     pub test_after: Duration,
-    /// How long after its birth a connection is closed, at its return or at a reap. 30 minutes by
+    /// The age at which a connection is closed, when it is returned or by the reaper. 30 minutes by
     /// default.
     pub max_lifetime: Option<Duration>,
-    /// How long after its last entry an idle connection is closed at a reap, where more than
-    /// `min_idle` are idle. 10 minutes by default.
+    /// The idle time after which the reaper closes a connection, if more than `min_idle` are idle.
+    /// 10 minutes by default.
     pub idle_timeout: Option<Duration>,
-    /// How long a get waits, and after how long a failed connect is not tried again. 30 seconds by
-    /// default.
+    /// How long a get waits, and for how long a failed connect is retried. 30 seconds by default.
     pub connection_timeout: Duration,
-    /// Whether a failed connect is tried again. On by default.
+    /// Whether a failed connect is retried. On by default.
     pub retry_connection: bool,
-    /// How far the ticks of the reaper are apart. 30 seconds by default.
+    /// The time between two runs of the reaper. 30 seconds by default.
     pub reaper_rate: Duration,
-    /// Which idle connection is handed out first. `Fifo` by default.
+    /// Which idle connection is checked out first. `Fifo` by default.
     pub queue_strategy: QueueStrategy,
 }
 
@@ -82,10 +80,10 @@ fn is_at_most(least: Option<u32>, most: u32) -> bool {
 }
 
 impl Config {
-    /// Whether a pool can hold to this: `max_size` and `connection_timeout` are not zero,
-    /// `min_idle` is at most `max_size`, neither `max_lifetime` nor `idle_timeout` is set to zero,
-    /// and `reaper_rate` is not zero where one of the two is set. Our own test: upstream panics at
-    /// the setters, or when the pool is built.
+    /// Returns whether a pool accepts this configuration: `max_size` and `connection_timeout` are
+    /// not zero, `min_idle` is at most `max_size`, neither `max_lifetime` nor `idle_timeout` is set
+    /// to zero, and `reaper_rate` is not zero if one of these two is set. Not in bb8, which panics
+    /// in its setters or in `build`.
     pub fn is_lawful(&self) -> bool {
         let reaps = self.max_lifetime.is_some() || self.idle_timeout.is_some();
         self.max_size > 0

@@ -1,29 +1,30 @@
-//! The trait by which a new connection is prepared.
+//! The trait that prepares new connections.
 
 use super::Moment;
 use std::task::Poll;
 
-/// Prepares each connection that the pool opens, also a dedicated one, right after it was opened
-/// and before anyone gets it. A connection that is added by hand is not prepared.
+/// Prepares each connection that the pool opens, dedicated ones too, after it was opened and before
+/// a caller gets it. A connection passed to `add` is not prepared.
 ///
-/// As upstream, but that `on_acquire` gives a state in place of a future and a call of its own
-/// polls that state, that neither call has a body where none is written (`NopCustomizer` has both),
-/// and that no `Debug` is asked for, as a customizer is a type parameter of the pool.
+/// As in bb8, with three differences. `on_acquire` returns a state instead of a future, which
+/// `poll_acquire` polls. Neither method has a default body (*no-default-body* in docs/TOOLCHAIN.md;
+/// `NopCustomizer` has both). `Debug` is not required, because a customizer is a type parameter of
+/// the pool.
 ///
-/// Each call has a ghost member, a relation between what the call was given and what it answered.
-/// The implementer chooses it, and one that is left out allows everything.
+/// Each method has a ghost member: a relation between its arguments and its result. The implementer
+/// chooses it; an omitted one allows everything.
 pub trait CustomizeConnection<C, E>: Send + Sync + 'static {
-    /// A connection's preparation that is under way.
+    /// A preparation in progress.
     type Acquiring: Send + 'static;
 
-    /// Begins to prepare a connection. It waits for nothing: what takes time is for the polls. As
-    /// upstream, but for the state.
+    /// Begins to prepare a connection, without waiting: the polls do what takes time. As in bb8,
+    /// but for the state.
     fn on_acquire(&self, connection: &mut C) -> Self::Acquiring;
 
-    /// Goes on with a connection's preparation, at the moment `moment`: Ok where it is done, an
-    /// error where it failed, and pending while it is under way. It is not polled again once it was
-    /// ready. A connection whose preparation failed is dropped, and that counts as a failed
-    /// opening.
+    /// Continues the preparation of a connection, at the moment `moment`. Returns Ok once it is
+    /// done, an error if it failed, pending while it is in progress. It is not polled again after
+    /// it was ready. If it failed, the connection is dropped, and the connection attempt counts as
+    /// failed.
     fn poll_acquire(
         &self,
         connection: &mut C,
@@ -32,8 +33,8 @@ pub trait CustomizeConnection<C, E>: Send + Sync + 'static {
     ) -> Poll<Result<(), E>>;
 }
 
-/// The customizer that leaves each connection as it is and is ready at once: what a pool has where
-/// none is set. Upstream has an optional customizer instead.
+/// The customizer that changes nothing and is ready at once. A pool without a customizer has it.
+/// bb8 has an optional customizer instead.
 #[derive(Clone, Copy, Debug)]
 pub struct NopCustomizer;
 

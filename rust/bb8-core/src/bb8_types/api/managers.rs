@@ -1,53 +1,52 @@
-//! The trait by which a pool opens and checks connections.
+//! The trait that opens and checks connections.
 
 use super::Moment;
 use std::task::Poll;
 use std::fmt::Debug;
 
-/// Opens and checks the connections of a pool.
+/// Defines how the connections of a pool are opened and checked.
 ///
-/// As upstream, but that `connect` and `is_valid` give a state in place of a future, and a call of
-/// its own polls that state: the pool polls it until it is ready and not again, and may drop it
-/// before. No call is made under the pool's lock; connections may be dropped under it.
+/// As in bb8, but `connect` and `is_valid` return a state instead of a future, which a second
+/// method polls. The pool polls it until it is ready and not again, and may drop it before. No
+/// method is called under the pool's lock; connections may be dropped under it.
 ///
-/// A poll runs in the thread that polls: a driver's, where a connection is opened, and that of a
-/// get's caller, where one is checked. One that blocks holds up what else that thread does, which
-/// is the driver's other openings and its reaper, or the get, past its deadline. So a poll answers
-/// pending where it would wait, or more drivers of the pool run, each in a thread of its own.
+/// A poll runs in the thread that polls: a driver's for a connection attempt, the caller's for the
+/// check of a get. A poll that blocks delays everything else of that thread: the driver's other
+/// attempts and its reaper, or the get, past its deadline. So a poll returns pending where it would
+/// wait; or run more drivers, each in a thread of its own.
 ///
-/// Each call has a ghost member, a relation between what the call was given and what it answered.
-/// The implementer chooses it, and one that is left out allows everything. What is proved of a pool
-/// holds for every choice.
+/// Each method has a ghost member: a relation between its arguments and its result. The implementer
+/// chooses it; an omitted one allows everything. What is proved of a pool holds for every choice.
 pub trait ManageConnection: Sized + Send + Sync + 'static {
-    /// What the pool keeps and hands out. As upstream.
+    /// The connection that the pool keeps and checks out. As in bb8.
     type Connection: Send + 'static;
 
-    /// Why a connection could not be opened, or is not valid. As upstream.
+    /// The error of an attempt or a check that failed. As in bb8.
     type Error: Debug + Send + 'static;
 
-    /// A connection that is being opened.
+    /// A connection attempt in progress.
     type Connecting: Send + 'static;
 
-    /// A check that is being made.
+    /// A check in progress.
     type Checking: Send + 'static;
 
-    /// Begins to open a connection. It waits for nothing: what takes time is for the polls. As
-    /// upstream, but for the state.
+    /// Begins to open a connection, without waiting: the polls do what takes time. As in bb8, but
+    /// for the state.
     fn connect(&self) -> Self::Connecting;
 
-    /// Goes on with the opening of a connection, at the moment `moment`: the connection or the
-    /// error once it is open or has failed, else pending.
+    /// Continues a connection attempt, at the moment `moment`. Returns the connection once it is
+    /// open, the error if the attempt failed, else pending.
     fn poll_connect(
         &self,
         connecting: &mut Self::Connecting,
         moment: Moment,
     ) -> Poll<Result<Self::Connection, Self::Error>>;
 
-    /// Begins to check whether a connection still serves. As upstream, but for the state.
+    /// Begins to check whether a connection still works. As in bb8, but for the state.
     fn is_valid(&self, connection: &mut Self::Connection) -> Self::Checking;
 
-    /// Goes on with the check of a connection, at the moment `moment`: Ok where it serves, an error
-    /// where it does not and is to be closed, and pending while that is not known.
+    /// Continues the check of a connection, at the moment `moment`. Returns Ok if it works, an
+    /// error if it does not and is to be closed, pending while that is not known.
     fn poll_valid(
         &self,
         connection: &mut Self::Connection,
@@ -55,8 +54,8 @@ pub trait ManageConnection: Sized + Send + Sync + 'static {
         moment: Moment,
     ) -> Poll<Result<(), Self::Error>>;
 
-    /// Whether a connection is known to be of no more use, without waiting. It is asked of a
-    /// connection that comes back to the pool, is added to it or failed its check; one that comes
-    /// back broken is closed, and one that is to be added is refused. As upstream.
+    /// Returns, without waiting, whether a connection is known to be useless. It is called for a
+    /// connection that is returned, passed to `add`, or whose check failed. A broken one that is
+    /// returned is closed; one passed to `add` is refused. As in bb8.
     fn has_broken(&self, connection: &mut Self::Connection) -> bool;
 }

@@ -1,16 +1,15 @@
-//! Where errors go that no caller of the pool waits for.
+//! The receiver of errors that no caller waits for.
 
-/// Takes the errors that belong to no caller of the pool: those of opening and customizing
-/// connections in the background, and those of failed checks. For a log or a count of failures. As
-/// upstream, but that a sink is a type parameter of the pool and so needs neither `Debug` nor a way
-/// to be copied.
+/// Receives the errors that belong to no caller: those of opening and customizing connections in
+/// the background, and those of failed checks. Use it for a log or a count of failures. As in bb8,
+/// but a sink is a type parameter of the pool, so it needs neither `Debug` nor a method to copy it.
 pub trait ErrorSink<E>: Send + Sync + 'static {
-    /// Takes an error. It is called without the pool's lock, and its caller goes on once it
-    /// returns. As upstream.
+    /// Receives an error. It is called without the pool's lock, and its caller waits until it
+    /// returns. As in bb8.
     fn sink(&self, error: E);
 }
 
-/// The sink that drops each error: what a pool has where none is set. As upstream.
+/// The sink that drops each error. A pool without a sink has it. As in bb8.
 #[derive(Clone, Copy, Debug)]
 pub struct NopErrorSink;
 

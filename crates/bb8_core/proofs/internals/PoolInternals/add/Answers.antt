@@ -12,8 +12,8 @@ returns-then-broken-clause-step g c = (
   tt,
 )
 
-pub invariant_of-self : goal.invariant_of-self
-invariant_of-self g c = (led _ c.args.at.0 (acts.Add c.args.conn c.args.broken) _ c.self.view_is c.self.invariant.0 (returns-then-broken-clause-step g c).0, c.self.invariant.1)
+pub invariant_of-self-then-broken : goal.invariant_of-self-then-broken
+invariant_of-self-then-broken g c = (led _ c.args.at.0 (acts.Add c.args.conn c.args.broken) _ c.self.view_is c.self.invariant.0 (returns-then-broken-clause-step g c).0, c.self.invariant.1)
 
 pub returns-then-used-self-clause-step : goal.returns-then-used-self-clause-step
 returns-then-used-self-clause-step g c = (
@@ -48,7 +48,7 @@ pub returns-in-Ok-clause-step : goal.returns-in-Ok-clause-step
 returns-in-Ok-clause-step g c = (
   rw c.if-broken.false (at_view c.self.view_is
       (meets_added c.max-now.ensures (has_room c.self.view_is (fitting (acts.Add c.args.conn c.args.broken) (c.if-not-fits_add.ensures c.args.conn c.args.broken)) c.used.ensures c.if-used-self.false)
-      (record { who = c.notify.ensures.value; after = c.notify.ensures.state })
+      (record { who = c.notify-notified.ensures.value; after = c.notify-notified.ensures.state })
       (left _ c.has_number.ensures c.if-not-has_number.false) c.in-Ok.ensures.ok.0 c.in-Ok.ensures.ok.1)),
   tt,
 )
@@ -68,4 +68,7 @@ pub invariant_of-self-in-Err : goal.invariant_of-self-in-Err
 invariant_of-self-in-Err g c = (led _ c.args.at.0 (acts.Add c.args.conn c.args.broken) _ c.self.view_is c.self.invariant.0 (returns-in-Err-clause-step g c).0, c.self.invariant.1)
 
 pub returns-then-not-fits_add-clause-step : goal.returns-then-not-fits_add-clause-step
-returns-then-not-fits_add-clause-step g c = unfit_step c.args.at.0 (acts.Add c.args.conn c.args.broken) (c.if-not-fits_add.ensures c.args.conn c.args.broken)
+returns-then-not-fits_add-clause-step g c = unfit_step c.args.at.0 (acts.Add c.args.conn c.args.broken) c.self.view_is (c.if-not-fits_add.ensures c.args.conn c.args.broken)
+
+pub invariant_of-self : goal.invariant_of-self
+invariant_of-self g c = (led _ c.args.at.0 (acts.Add c.args.conn c.args.broken) _ c.self.view_is c.self.invariant.0 (returns-then-not-fits_add-clause-step g c).0, c.self.invariant.1)

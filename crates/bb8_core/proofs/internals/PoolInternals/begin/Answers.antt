@@ -12,8 +12,8 @@ returns-then-not-has_number-clause-step g c = (
   tt,
 )
 
-pub invariant_of-self : goal.invariant_of-self
-invariant_of-self g c = (led _ c.args.at.0 acts.Begin _ c.self.view_is c.self.invariant.0 (returns-then-not-has_number-clause-step g c).0, c.self.invariant.1)
+pub invariant_of-self-then-not-has_number : goal.invariant_of-self-then-not-has_number
+invariant_of-self-then-not-has_number g c = (led _ c.args.at.0 acts.Begin _ c.self.view_is c.self.invariant.0 (returns-then-not-has_number-clause-step g c).0, c.self.invariant.1)
 
 pub begin-requires : goal.begin-requires
 begin-requires g c = left _ c.has_number.ensures c.if-not-has_number.false
@@ -47,4 +47,7 @@ pub invariant_of-self-in-Some : goal.invariant_of-self-in-Some
 invariant_of-self-in-Some g c = (led _ c.args.at.0 acts.Begin _ c.self.view_is c.self.invariant.0 (returns-in-Some-clause-step g c).0, c.self.invariant.1)
 
 pub returns-then-not-fits_begin-clause-step : goal.returns-then-not-fits_begin-clause-step
-returns-then-not-fits_begin-clause-step g c = unfit_step c.args.at.0 acts.Begin c.if-not-fits_begin.ensures
+returns-then-not-fits_begin-clause-step g c = unfit_step c.args.at.0 acts.Begin c.self.view_is c.if-not-fits_begin.ensures
+
+pub invariant_of-self : goal.invariant_of-self
+invariant_of-self g c = (led _ c.args.at.0 acts.Begin _ c.self.view_is c.self.invariant.0 (returns-then-not-fits_begin-clause-step g c).0, c.self.invariant.1)

@@ -22,7 +22,7 @@ invariant_of-self g c = (led _ c.args.at.0 acts.Claim _ c.self.view_is c.self.in
 
 pub returns-clause-step : goal.returns-clause-step
 returns-clause-step g c = at_view c.self.view_is
-    (meets_claimed (view_of c.self.inside) c.args.at.0 c.claim.result c.max-self-inside.result c.claim.new.self c.max-self-inside.ensures c.if-self-eq0.false c.claim.ensures.some c.claim.ensures.none)
+    (meets_claimed (view_of c.self.inside) c.args.at.0 c.claim-claimed.result c.max-self-inside.result c.claim-claimed.new.self c.max-self-inside.ensures c.if-self-eq0.false c.claim-claimed.ensures.some c.claim-claimed.ensures.none)
 
 pub invariant_of-self-2 : goal.invariant_of-self-2
 invariant_of-self-2 g c = (led _ c.args.at.0 acts.Claim _ c.self.view_is c.self.invariant.0 (returns-clause-step g c), c.self.invariant.1)

@@ -7,7 +7,7 @@ use Rattle.bb8_core.proofs.Parts.{counted}
 use Rattle.bb8_core.proofs.internals.PoolInternals.detach.Goals as goal
 
 pub returns-then-not-is_guarded-clause-step : goal.returns-then-not-is_guarded-clause-step
-returns-then-not-is_guarded-clause-step g c = unfit_step c.args.at.0 (acts.Detach c.args.k.number) (λ l legal means.
+returns-then-not-is_guarded-clause-step g c = unfit_step c.args.at.0 (acts.Detach c.args.k.number) c.self.view_is (λ l legal means.
     unfit_at (view_of c.self.inside) is_guarded c.args.k.number (sym c.is_guarded.ensures.value ∙ c.if-not-is_guarded.true) l legal (as_shown l (sym c.self.view_is) means))
 
 pub detach-requires : goal.detach-requires
@@ -20,13 +20,16 @@ returns-clause-step g c = (
   at_view c.self.view_is
       (meets_detached c.self.inside.counters c.max-self-inside.ensures
       (fits_at (view_of c.self.inside) is_guarded c.args.k.number (sym c.is_guarded.ensures.value ∙ c.if-not-is_guarded.false))
-      (record { who = c.notify.ensures.value; after = c.notify.ensures.state })
+      (record { who = c.notify-notified.ensures.value; after = c.notify-notified.ensures.state })
       c.close_and_grant-grant.ensures.granted c.close_and_grant-grant.ensures.state refl c.detach.ensures),
   tt,
 )
 
-pub invariant_of-self : goal.invariant_of-self
-invariant_of-self g c = (led _ c.args.at.0 (acts.Detach c.args.k.number) _ c.self.view_is c.self.invariant.0 (returns-clause-step g c).0, c.self.invariant.1)
+pub invariant_of-self-2 : goal.invariant_of-self-2
+invariant_of-self-2 g c = (led _ c.args.at.0 (acts.Detach c.args.k.number) _ c.self.view_is c.self.invariant.0 (returns-clause-step g c).0, c.self.invariant.1)
 
 pub returns-clause-counts : goal.returns-clause-counts
 returns-clause-counts g c = counted _ c.args.at.0 (acts.Detach c.args.k.number) _ c.self.view_is c.self.invariant.0 (returns-clause-step g c).0
+
+pub invariant_of-self : goal.invariant_of-self
+invariant_of-self g c = (led _ c.args.at.0 (acts.Detach c.args.k.number) _ c.self.view_is c.self.invariant.0 (returns-then-not-is_guarded-clause-step g c).0, c.self.invariant.1)

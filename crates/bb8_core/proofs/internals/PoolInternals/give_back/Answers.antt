@@ -78,7 +78,7 @@ returns-in-Ok-Err-clause-step g c =
           (record { now_is = c.max-now.ensures; get_is = refl; held = held.0 })
           (record { now_is = c.max-now.ensures; birth_is = refl; aged_is = c.either.ensures ∙ ap (λ (b : Bool). b || (ltb c.in-Some.held c.self.inside.retired)) (err.1 ∙ c.self.invariant.1.age (c.max-now.result - birth_in (get c.self.inside.records.places c.in-Some.held)) (omega arith)) })
           c.is_doubtful-doubtful.ensures (regroup c.is_doubtful-doubtful.result c.in-Ok-Err.expired (eqb c.self.inside.handles 0) (ltb c.in-Some.held c.self.inside.retired) (c.self.invariant.1.closed c.in-Some.held few) c.either.ensures err.2) (rw err.3 at c.close_and_grant-grant.ensures.granted) (rw err.3 at c.close_and_grant-grant.ensures.state)
-          (notices held.2 c.notify.ensures.value c.notify.ensures.state) refl held.1
+          (notices held.2 c.notify-notified-in-Ok-Err.ensures.value c.notify-notified-in-Ok-Err.ensures.state) refl held.1
           (given_up_is c.args.reason c.max-now.result c.in-Some.first_wait c.give_up.ensures.timed_out c.give_up.ensures.cancelled) c.close.ensures),
       tt,
     )

@@ -13,8 +13,8 @@ returns-then-self-clause-step g c = (
   tt,
 )
 
-pub invariant_of-self : goal.invariant_of-self
-invariant_of-self g c = (led _ c.args.at.0 acts.Join _ c.self.view_is c.self.invariant.0 (returns-then-self-clause-step g c).0, c.self.invariant.1)
+pub invariant_of-self-then-self : goal.invariant_of-self-then-self
+invariant_of-self-then-self g c = (led _ c.args.at.0 acts.Join _ c.self.view_is c.self.invariant.0 (returns-then-self-clause-step g c).0, c.self.invariant.1)
 
 pub returns-clause-step : goal.returns-clause-step
 returns-clause-step g c = (
@@ -30,4 +30,7 @@ invariant_of-self-2 g c = let some = fit_leave c.self.view_is c.self.invariant.0
 )
 
 pub returns-then-not-fits_join-clause-step : goal.returns-then-not-fits_join-clause-step
-returns-then-not-fits_join-clause-step g c = unfit_step c.args.at.0 acts.Join c.if-not-fits_join.ensures
+returns-then-not-fits_join-clause-step g c = unfit_step c.args.at.0 acts.Join c.self.view_is c.if-not-fits_join.ensures
+
+pub invariant_of-self : goal.invariant_of-self
+invariant_of-self g c = (led _ c.args.at.0 acts.Join _ c.self.view_is c.self.invariant.0 (returns-then-not-fits_join-clause-step g c).0, c.self.invariant.1)

@@ -1,6 +1,7 @@
-use Rattle.bb8_core.proofs.Words.{arith, refl, is_claimed, view_of}
+use Rattle.bb8_core.proofs.Words.{arith, refl, get, is_claimed, standing_is, view_of}
 use Rattle.bb8_ledger.specs.Acts as acts
-use Rattle.bb8_core.proofs.Fitting.{fits_at, unfit_at, created_few, none_after}
+use Rattle.bb8_core.proofs.Fitting.{number_few, fits_at, unfit_at, created_few, none_after}
+use Rattle.bb8_core.proofs.ClosesBelow.{late_below, in_time_above}
 use Rattle.bb8_core.proofs.Runs.{unfit_records}
 use Rattle.bb8_core.proofs.Steps.{meets_opened, meets_late, led, at_view}
 use Rattle.bb8_core.proofs.internals.PoolInternals.opened.Goals as goal
@@ -13,16 +14,16 @@ returns-then-not-end_claimed-clause-step g c = unfit_records c.args.at.0 (acts.O
 pub invariant_of-self : goal.invariant_of-self
 invariant_of-self g c = (led _ c.args.at.0 (acts.Opened c.args.a.number c.args.conn) _ c.self.view_is c.self.invariant.0 (returns-then-not-end_claimed-clause-step g c).0, c.self.invariant.1)
 
-pub returns-then-self-eq0-clause-step : goal.returns-then-self-eq0-clause-step
-returns-then-self-eq0-clause-step g c = (
+pub returns-then-a-self-clause-step : goal.returns-then-a-self-clause-step
+returns-then-a-self-clause-step g c = (
   at_view c.self.view_is
       (meets_late c.max-now.ensures c.args.conn (fits_at (view_of c.self.inside) is_claimed c.args.a.number (c.end_claimed.ensures.ended c.if-not-end_claimed.false).0)
-      c.if-self-eq0.true (c.end_claimed.ensures.ended c.if-not-end_claimed.false).1),
+      (late_below _ _ c.self.invariant.1.closed (omega arith) c.if-a-self.true) (c.end_claimed.ensures.ended c.if-not-end_claimed.false).1),
   tt,
 )
 
-pub invariant_of-self-then-self-eq0 : goal.invariant_of-self-then-self-eq0
-invariant_of-self-then-self-eq0 g c = (led _ c.args.at.0 (acts.Opened c.args.a.number c.args.conn) _ c.self.view_is c.self.invariant.0 (returns-then-self-eq0-clause-step g c).0, c.self.invariant.1)
+pub invariant_of-self-then-a-self : goal.invariant_of-self-then-a-self
+invariant_of-self-then-a-self g c = (led _ c.args.at.0 (acts.Opened c.args.a.number c.args.conn) _ c.self.view_is c.self.invariant.0 (returns-then-a-self-clause-step g c).0, c.self.invariant.1)
 
 pub enter-requires : goal.enter-requires
 enter-requires g c = none_after (view_of c.self.inside) c.args.at.0 c.max-now.result c.self.invariant.0 c.max-now.ensures
@@ -35,12 +36,14 @@ pub overflow_add-self : goal.overflow_add-self
 overflow_add-self g c = omega (arith, created_few (view_of c.self.inside) c.args.a.number c.self.invariant.0 c.in-Ok.ensures.ok.0 c.in-Ok.ensures.numbers)
 
 pub returns-in-Ok-clause-step : goal.returns-in-Ok-clause-step
-returns-in-Ok-clause-step g c = (
-  at_view c.self.view_is
-      (meets_opened c.max-now.ensures c.args.conn (fits_at (view_of c.self.inside) is_claimed c.args.a.number c.in-Ok.ensures.ok.0)
-      c.if-self-eq0.false c.in-Ok.ensures.ok.1 (record { who = c.notify-notified.ensures.value; after = c.notify-notified.ensures.state }) refl),
-  tt,
-)
+returns-in-Ok-clause-step g c =
+    let a = view_of c.self.inside in
+    let few = number_few c.args.a.number a c.self.invariant.0 (standing_is is_claimed (get a.records.places c.args.a.number) c.in-Ok.ensures.ok.0) c.in-Ok.ensures.numbers in (
+      at_view c.self.view_is
+          (meets_opened c.max-now.ensures c.args.conn (fits_at a is_claimed c.args.a.number c.in-Ok.ensures.ok.0)
+          (in_time_above _ _ c.self.invariant.1.closed few c.if-a-self.false) c.in-Ok.ensures.ok.1 (record { who = c.notify-notified.ensures.value; after = c.notify-notified.ensures.state }) refl),
+      tt,
+    )
 
 pub invariant_of-self-in-Ok : goal.invariant_of-self-in-Ok
 invariant_of-self-in-Ok g c = (led _ c.args.at.0 (acts.Opened c.args.a.number c.args.conn) _ c.self.view_is c.self.invariant.0 (returns-in-Ok-clause-step g c).0, c.self.invariant.1)

@@ -54,7 +54,7 @@ returns-in-Ok-Err-clause-step g c =
     let few = number_few c.args.k.number a c.self.invariant.0 (guarded_record a c.args.k.number r.held) (rw err.3 at c.close_and_grant-grant.ensures.numbers) in (
       at_view c.self.view_is
           (meets_returned_closed c.self.inside.counters (fits_at a is_guarded c.args.k.number r.held)
-          (record { who = c.notify.ensures.value; after = c.notify.ensures.state })
+          (record { who = c.notify-notified-in-Ok-Err.ensures.value; after = c.notify-notified-in-Ok-Err.ensures.state })
           (record { now_is = c.max-now.ensures; birth_is = refl; aged_is = c.either.ensures ∙ ap (λ (b : Bool). b || (ltb c.args.k.number c.self.inside.retired)) (err.1 ∙ c.self.invariant.1.age (c.max-now.result - birth_in (get c.self.inside.records.places c.args.k.number)) (omega arith)) })
           (regroup c.args.broken c.in-Ok-Err.expired (eqb c.self.inside.handles 0) (ltb c.args.k.number c.self.inside.retired) (c.self.invariant.1.closed c.args.k.number few) c.either.ensures err.2) (rw err.3 at c.close_and_grant-grant.ensures.granted) (rw err.3 at c.close_and_grant-grant.ensures.state) refl c.close.ensures),
       tt,

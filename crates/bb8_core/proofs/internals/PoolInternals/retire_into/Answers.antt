@@ -1,4 +1,4 @@
-use Rattle.bb8_core.proofs.Words.{◌+◌, ◌≤◌, ap, arith, refl, after_reap, RecordsView, view_of, subst, Settings}
+use Rattle.bb8_core.proofs.Words.{◌+◌, ◌≤◌, ap, arith, refl, after_reap, RecordsView, view_of}
 use Rattle.bb8_ledger.specs.Acts as acts
 use Rattle.bb8_core.proofs.Fitting.{due_fits}
 use Rattle.bb8_core.proofs.ShownReaped.{reap_few}

@@ -10,9 +10,12 @@ use Rattle.bb8_core.proofs.Parts.{counted}
 use Rattle.bb8_core.proofs.internals.PoolInternals.try_get.Goals as goal
 
 pub returns-then-not-is_trying-clause-step : goal.returns-then-not-is_trying-clause-step
-returns-then-not-is_trying-clause-step g c = unfit_step c.args.at.0 (acts.Try c.args.get.number) (λ l legal means.
+returns-then-not-is_trying-clause-step g c = unfit_step c.args.at.0 (acts.Try c.args.get.number) c.self.view_is (λ l legal means.
     let fits = shown_try l (view_of c.self.inside) c.args.get.number (as_shown l (sym c.self.view_is) means) in
     sym (fits ∙ ap (gets_stand is_trying) (sym c.getting-getting.ensures.value) ∙ sym c.is_trying.ensures ∙ c.if-not-is_trying.true))
+
+pub invariant_of-self : goal.invariant_of-self
+invariant_of-self g c = (led _ c.args.at.0 (acts.Try c.args.get.number) _ c.self.view_is c.self.invariant.0 (returns-then-not-is_trying-clause-step g c).0, c.self.invariant.1)
 
 pub returns-then-is_unnotified-clause-step : goal.returns-then-is_unnotified-clause-step
 returns-then-is_unnotified-clause-step g c = (
@@ -23,8 +26,8 @@ returns-then-is_unnotified-clause-step g c = (
   tt,
 )
 
-pub invariant_of-self : goal.invariant_of-self
-invariant_of-self g c = (led _ c.args.at.0 (acts.Try c.args.get.number) _ c.self.view_is c.self.invariant.0 (returns-then-is_unnotified-clause-step g c).0, c.self.invariant.1)
+pub invariant_of-self-then-is_unnotified : goal.invariant_of-self-then-is_unnotified
+invariant_of-self-then-is_unnotified g c = (led _ c.args.at.0 (acts.Try c.args.get.number) _ c.self.view_is c.self.invariant.0 (returns-then-is_unnotified-clause-step g c).0, c.self.invariant.1)
 
 pub grant-grant-requires : goal.grant-grant-requires
 grant-grant-requires g c = omega (arith, due_fits (view_of c.self.inside) _ c.self.invariant.0 (omega arith) c.in-None.ensures.none.1 refl c.due_waiting-due.ensures)

@@ -5,5 +5,6 @@ use Rattle.bb8_lock.proofs.home.LockedGetHome.close.Goals as goal
 
 pub returns-then-not-fits_close : goal.returns-then-not-fits_close
 returns-then-not-fits_close g c =
-    let unfit = unfit_step c.args.at.0 Close c.if-not-fits_close.ensures in
+    let core = c.args.self.now.core in
+    let unfit = unfit_step {s = core} {t = core} {lent = core.lent} c.args.at.0 Close refl c.if-not-fits_close.ensures in
     (((c.args.self.now.settled, (c.limits.ensures.ledger, unfit.0)), unfit.1), tt, refl)

@@ -3,4 +3,4 @@ use Rattle.bb8_core.proofs.Fitting.{as_shown, shown_record}
 use Rattle.bb8_core.proofs.internals.questions.PoolInternals+C.is_claimed.Goals as goal
 
 pub returns : goal.returns
-returns g c = λ l legal means. c.is_claimed.ensures.value ∙ sym (ap (stands is_claimed) (shown_record l (view_of c.self.inside) (as_shown l (sym c.self.view_is) means) c.args.k.number))
+returns g c = λ l legal means. c.is_claimed-is_claimed.ensures.value ∙ sym (ap (stands is_claimed) (shown_record l (view_of c.self.inside) (as_shown l (sym c.self.view_is) means) c.args.k.number))

@@ -1,0 +1,149 @@
+-- No idle connection is retired.
+use Rattle.bb8_ledger.proofs.Words.{◌≡◌, ℕ, zero, suc, ◌+◌, ◌≤◌, max, Bool, true, false, cond, eqb, ltb, ◌||◌, List, [], ◌∷◌, ◌++◌, map, length, Option, Some, None, option_map, refl, sym, ◌∙◌, ap, inl, inr, arith, nat_tests, Place, Claimed, Held, Guarded, Standing, Numbered, standing_at, tally, one, update, after_end, after_end_where, is_left, with_place, Act, Answer, Start, Ledger, Later, start, position, latest, handles, retired, records, idle_of, idle_count, next, approval, with_approvals, with_ended, at_place, at_entry, entry, reaped_at, retired_at, retiring, lives_out, is_idle, stands, is_doubtful, Row, serves, takes_out, waits_on, waits, checks, check_fails, gives_up_kept, gives_up_closed, keeps, returns_closed, detaches, fills, asks_for, claims, opens, opens_late, fails, adds, reaps, retires, retire_ended, leaves, shuts}
+use Rattle.bb8_types.proofs.Numbered as numbered
+use Rattle.bb8_ledger.proofs.Reaps.{reaped_none}
+
+-- what is kept is not retired
+kept_fresh : (broken old r over : Bool) → (broken || ((old || r) || over)) ≡ false → r ≡ false
+kept_fresh true old r over h = cc
+kept_fresh false true r over h = cc
+kept_fresh false false true over h = cc
+kept_fresh false false false over h = refl
+
+-- nor is what comes in time
+in_time_fresh : (over r : Bool) → (over || r) ≡ false → r ≡ false
+in_time_fresh true r h = cc
+in_time_fresh false r h = h
+
+not_below : (k b : ℕ) → ltb k b ≡ false → b ≤ k
+not_below k b h = grind (arith, nat_tests, h)
+
+module _ {C : Type 0} where
+  -- each idle one of these records has this number at least; the first record has the number n
+  abbrev pub AreFrom : ℕ → ℕ → List (Numbered (Standing C)) → Type 0
+  AreFrom b n [] = Unit {0}
+  AreFrom b n (r ∷ rs) = (stands is_idle r.standing ≡ true → b ≤ n) × AreFrom b (suc n) rs
+
+  pub from : (b n k : ℕ) (rs : List (Numbered (Standing C))) → AreFrom b n rs → stands is_idle (standing_at n rs k) ≡ true → b ≤ k
+  from b n k [] u h = cc
+  from b n k (r ∷ rs) u h = elim (numbered.same_or_not k n) [
+    | inl t ↦ omega (arith, u.0 (rw t.0 at h), t.1)
+    | inr t ↦ from b (suc n) k rs u.1 (rw t.0 at h)
+  ]
+
+  none_idle : (b n : ℕ) (rs : List (Numbered (Standing C))) → idle_of rs ≡ 0 → AreFrom b n rs
+  none_idle b n [] none = tt
+  none_idle b n (r ∷ rs) none = (λ idle. absurd (omega (arith, none, ap one idle)), none_idle b (suc n) rs (omega (arith, none)))
+
+  updated : (b n k : ℕ) (f : Numbered (Standing C) → Numbered (Standing C)) (rs : List (Numbered (Standing C)))
+      → ((r : Numbered (Standing C)) → stands is_idle (f r).standing ≡ true → b ≤ k) → AreFrom b n rs → AreFrom b n (update n k f rs)
+  updated b n k f [] new u = tt
+  updated b n k f (r ∷ rs) new u = (
+    elim (numbered.same_or_not k n) [
+      | inl t ↦ rw t.0 (λ idle. omega (arith, new r idle, t.1))
+      | inr t ↦ rw t.0 u.0
+    ],
+    updated b (suc n) k f rs new u.1,
+  )
+
+  ended : (b n k : ℕ) (rs : List (Numbered (Standing C))) → AreFrom b n rs → AreFrom b n (update n k after_end rs)
+  ended b n k rs u = updated b n k after_end rs (λ r idle. cc) u
+
+  placed : (b n k : ℕ) (p : Place C) (rs : List (Numbered (Standing C))) → is_idle p ≡ false → AreFrom b n rs → AreFrom b n (update n k (at_place p) rs)
+  placed b n k p rs off u = updated b n k (at_place p) rs (λ r idle. absurd (never r.standing idle)) u
+    where
+      never : (o : Option (Standing C)) → stands is_idle (option_map (with_place p) o) ≡ true → ⊥
+      never None idle = cc
+      never (Some s) idle = let clash : false ≡ true = sym off ∙ idle in cc
+
+  appended : (b n : ℕ) (rs : List (Numbered (Standing C))) (r : Numbered (Standing C)) → (stands is_idle r.standing ≡ true → b ≤ n + length rs)
+      → AreFrom b n rs → AreFrom b n (rs ++ r ∷ [])
+  appended b n [] r new u = (λ idle. omega (arith, new idle), tt)
+  appended b n (x ∷ rs) r new u = (u.0, appended b (suc n) rs r (λ idle. omega (arith, new idle)) u.1)
+
+  granted : (b n : ℕ) (claimed : Bool) (m : ℕ) (rs : List (Numbered (Standing C))) → AreFrom b n rs → AreFrom b n (with_approvals claimed m rs)
+  granted b n claimed zero rs u = u
+  granted b n claimed (suc m) rs u = appended b n (with_approvals claimed m rs) (approval claimed) (never claimed) (granted b n claimed m rs u)
+    where
+      never : (t : Bool) → stands is_idle (approval {C = C} t).standing ≡ true → b ≤ n + length (with_approvals claimed m rs)
+      never true idle = cc
+      never false idle = cc
+
+  all_ended : (b n : ℕ) (ks : List ℕ) (rs : List (Numbered (Standing C))) → AreFrom b n rs → AreFrom b n (with_ended n ks rs)
+  all_ended b n [] rs u = u
+  all_ended b n (k ∷ ks) rs u = all_ended b n ks (update n k after_end rs) (ended b n k rs u)
+
+  swept : (b n : ℕ) (rs : List (Numbered (Standing C))) → AreFrom b n rs → AreFrom b n (map (after_end_where is_left) rs)
+  swept b n [] u = tt
+  swept b n (r ∷ rs) u = (pick (is_left r.standing), swept b (suc n) rs u.1)
+    where
+      pick : (t : Bool) → stands is_idle (cond t (after_end r) r).standing ≡ true → b ≤ n
+      pick true = λ idle. cc
+      pick false = u.0
+
+  -- at a retire each idle record has lived too long
+  all_aged : (s : Start) (now : ℕ) (rs : List (Numbered (Standing C))) → tally (λ r. lives_out (retiring s).config now r.standing) rs ≡ idle_of rs
+  all_aged s now [] = refl
+  all_aged s now (r ∷ rs) = omega (arith, all_aged s now rs, ap one (each r.standing))
+    where
+      each : (o : Option (Standing C)) → lives_out (retiring s).config now o ≡ stands is_idle o
+      each None = refl
+      each (Some t) = grind (arith, nat_tests)
+
+  -- so none is idle after it
+  all_closed : (l : Ledger C) (at n : ℕ) → idle_of (with_approvals false n (with_ended (start l).first (retired_at l at) (records l))) ≡ 0
+  all_closed l at n =
+      let now : ℕ = max (latest l) at in
+      let rs : List (Numbered (Standing C)) = with_approvals false n (with_ended (start l).first (retired_at l at) (records l)) in
+      omega (
+        arith,
+        all_aged (start l) now rs,
+        numbered.length-numbers (λ (r : Numbered (Standing C)). lives_out (retiring (start l)).config now r.standing) rs (start l).first,
+        (reaped_none (retiring (start l)) (position l) now n (records l)).aged,
+      )
+
+  -- so it is after each event, where all that was retired had numbers, and nothing is idle while no
+  -- handle is alive
+  pub row_from : (l : Ledger C) (at : ℕ) (e : Act C) (a : Answer) → Row l at e a → retired l ≤ next l → (handles l ≡ 0 → idle_count l ≡ 0)
+      → AreFrom (retired l) (start l).first (records l) → AreFrom (retired (Later l at e a)) (start l).first (records (Later l at e a))
+  row_from l at _ _ (serves {k} {grant} not_waiting off first want) few none u = granted _ _ false grant.count _ (placed _ _ k Guarded (records l) refl u)
+  row_from l at _ _ (takes_out {g} {k} {grant} not_waiting on first want) few none u = granted _ _ false grant.count _ (placed _ _ k (Held g) (records l) refl u)
+  row_from l at _ _ (waits_on {grant} on nothing) few none u = granted _ _ false grant.count (records l) u
+  row_from l at _ _ (waits {grant} not_waiting empty asked) few none u = granted _ _ false grant.count (records l) u
+  row_from l at _ _ (checks {k} holds_it nothing) few none u = placed _ _ k Guarded (records l) refl u
+  row_from l at _ _ (check_fails {k} {grant} holds_it want is) few none u = granted _ _ false grant.count _ (ended _ _ k (records l) u)
+  row_from l at _ _ (gives_up_kept {k} {c} {broken} holds_it keep is) few none u =
+      let fresh = kept_fresh (is_doubtful (start l).config broken) _ (ltb k (retired l)) (eqb (handles l) 0) keep in
+      updated _ _ k (at_entry c (max (latest l) at) (position l)) (records l) (λ r idle. not_below k (retired l) fresh) u
+  row_from l at _ _ (gives_up_closed {k} {grant} holds_it shut want is) few none u = granted _ _ false grant.count _ (ended _ _ k (records l) u)
+  row_from l at _ _ (keeps {k} {c} {broken} keep is) few none u =
+      let fresh = kept_fresh broken _ (ltb k (retired l)) (eqb (handles l) 0) keep in
+      updated _ _ k (at_entry c (max (latest l) at) (position l)) (records l) (λ r idle. not_below k (retired l) fresh) u
+  row_from l at _ _ (returns_closed {k} {grant} shut want is) few none u = granted _ _ false grant.count _ (ended _ _ k (records l) u)
+  row_from l at _ _ (detaches {k} {grant} want is) few none u = granted _ _ false grant.count _ (ended _ _ k (records l) u)
+  row_from l at _ _ (fills {claimed} {grant} want) few none u = granted _ _ claimed grant.count (records l) u
+  row_from l at _ _ (asks_for {grant} asked) few none u = granted _ _ false grant.count (records l) u
+  row_from l at _ _ (claims {k = Some k} open_now first) few none u = placed _ _ k Claimed (records l) refl u
+  row_from l at _ _ (opens {k} {c} in_time is) few none u =
+      let now : ℕ = max (latest l) at in
+      let fresh = in_time_fresh (eqb (handles l) 0) (ltb k (retired l)) in_time in
+      updated _ _ k (λ r. entry c now now (position l)) (records l) (λ r idle. not_below k (retired l) fresh) u
+  row_from l at _ _ (opens_late {k} late) few none u = ended _ _ k (records l) u
+  row_from l at _ _ (fails {k}) few none u = ended _ _ k (records l) u
+  row_from l at _ _ (adds {c} room new is who) few none u = appended _ _ (records l) (entry c (max (latest l) at) (max (latest l) at) (position l)) (λ idle. few) u
+  row_from l at _ _ (reaps {grant} open_now closed_is by_idle_is by_life_is want) few none u = granted _ _ false grant.count _ (all_ended _ _ (reaped_at l at) (records l) u)
+  row_from l at _ _ (retires {grant} open_now closed_is want) few none u = none_idle _ _ _ (all_closed l at grant.count)
+  row_from l at _ _ (retire_ended over) few none u = none_idle _ _ (records l) (none over)
+  row_from l at _ _ (leaves is) few none u = last (eqb (handles l) 1)
+    where
+      last : (t : Bool) → AreFrom (retired l) (start l).first (cond t (map (after_end_where is_left) (records l)) (records l))
+      last true = swept _ _ (records l) u
+      last false = u
+  row_from l at _ _ (shuts is) few none u = swept _ _ (records l) u
+  row_from l at _ _ _ few none u = u
+
+  -- all that was retired had numbers
+  pub row_few : (l : Ledger C) (at : ℕ) (e : Act C) (a : Answer) → Row l at e a → next l ≤ next (Later l at e a) → retired l ≤ next l → retired (Later l at e a) ≤ next (Later l at e a)
+  row_few l at _ _ (retires open_now closed_is want) more few = more
+  row_few l at _ _ (retire_ended over) more few = more
+  row_few l at _ _ _ more few = omega (arith, more, few)
