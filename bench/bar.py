@@ -4,12 +4,12 @@ that rose above bench/figures.txt.
 
     bench/bar.py [--built]
 
-It builds the core and the crate with cargo, and the live pool with the kit; with --built it takes
-the live pool's program as an earlier run built it, `rt ci` for example. It exits with 1 if a count
-rose. Exception: a rise is no failure if the kept figure is of another processor, rustc (of the live
-pool: another kit) or tokio, as a count depends on them. If valgrind, cargo or the kit is missing it
-says so in a line, and that is no failure. Counts do not differ from run to run. Those that fell are
-named, too: `bench/compare.py instructions` keeps them.
+It builds the core and the crate with cargo, and the live pool with the Rattle toolchain; with
+--built it takes the live pool's program from an earlier run, such as `rt ci`. It exits with 1 if a
+count rose. Exception: counts depend on processor, rustc (for the live pool: the toolchain) and
+tokio, so a rise over a kept figure of others is no failure. If valgrind, cargo or the toolchain is
+missing, a line says so, and that is no failure. Counts do not differ from run to run. Those that
+fell are named, too: `bench/compare.py instructions` keeps them.
 """
 import shutil
 import sys
@@ -21,21 +21,21 @@ from measures import CORE_OF, CRATE_OF, LIVE_OF
 
 
 def built(is_live_there):
-    """The pools whose programs are there."""
+    """Returns the pools whose programs exist."""
     live = programs.is_live_there() if is_live_there else programs.is_live_built()
     there = ((CORE_OF, programs.is_core_built()), (LIVE_OF, live), (CRATE_OF, bool(programs.build_pools(None, ("crate",)))))
     return [whose for whose, is_there in there if is_there]
 
 
 def depends_on(whose):
-    """What a pool's counts depend on, as the notes of the figures name it."""
+    """Returns the tools and the machine that a pool's counts depend on, as the notes name them."""
     tools = [programs.version(programs.KIT if whose == LIVE_OF else programs.RUSTC)]
     tools += [name for name in programs.dependencies() if whose == CRATE_OF and name.startswith("tokio ")]
     return [*tools, programs.machine().rpartition(",")[0]]
 
 
 def others(part, whose):
-    """What the kept figures of a pool are not of, of all that its counts depend on."""
+    """Returns the tools and machines of this run that are not those of the kept figures."""
     notes = " ".join(figures.notes_of(part, whose))
     return [name for name in depends_on(whose) if name not in notes]
 
@@ -48,7 +48,7 @@ def main():
     kept, rose = figures.table(parts, "instructions"), {}
     for what, whose, figure in measures.counted(measures.counts(built(sys.argv[1:] == ["--built"]))):
         if (what, whose) not in kept:
-            print(f"{whose}, {what}: {figure}, of which no figure is kept")
+            print(f"{whose}, {what}: {figure}, and no figure is kept")
             continue
         before = int(kept[(what, whose)][0])
         change = "as kept" if figure == before else f"{'ROSE' if figure > before else 'fell'} from {before}"

@@ -5,10 +5,10 @@ keeps the figures.
     bench/compare.py [--original FOLDER] [--built] [instructions] [bytes] [times] [wakes] [shares] [loads]
 
 Without a part it measures all six. It builds the programs first: the core and the pools for Rust
-with cargo, the live pool with the kit. With --built it takes the live pool's program as an earlier
-run built it. FOLDER holds the original's crate; without it cargo's registry is asked, and then the
-copy of an earlier run is taken. A program that cannot be built here is named in a line, and its
-figures are kept as they were. The figures are written to bench/figures.txt, and from them the
+with cargo, the live pool with the Rattle toolchain. With --built it takes the live pool's program
+from an earlier run. FOLDER is the crate of bb8 0.9.1; without it cargo's registry is asked, and
+then the copy of an earlier run is taken. A program that cannot be built here is named in a line,
+and its figures stay as they were. The figures are written to bench/figures.txt, and from them the
 pictures in docs/ and the tables in bench/README.md.
 """
 import argparse
@@ -33,14 +33,14 @@ ROUNDS = 4_000_000
 CROWDS = (10_000, 25_000, 50_000, 100_000)
 # rounds of each of two threads that wake each other
 WAKES = "500"
-# 32 tasks share four connections: whose figures these are, of which pool and by which mode, and for
-# how many milliseconds
+# 32 tasks share four connections: the name in the figures, the pool, the mode; and the milliseconds
+# of a run
 SHARING = ((CRATE_OF, CRATE_OF, "tasks"), (FAIR_OF, CRATE_OF, "fair-tasks"), (ORIGINAL_OF, ORIGINAL_OF, "tasks"))
 LONG, SHORT = "3000", "300"
 
 
 def taken():
-    """When, where and of what the figures are."""
+    """Returns the notes of a run: time, commit, machine, tools."""
     now = datetime.datetime.now(datetime.timezone.utc).strftime("%Y-%m-%d %H:%M UTC")
     commit = (programs.ran(["git", "rev-parse", "--short", "HEAD"]) or "unknown").strip()
     changed = programs.ran(["git", "status", "--porcelain", "--", "../bench", "../crates", "../rust", ":!figures.txt"])
@@ -55,7 +55,7 @@ def load():
 
 
 def runs(have):
-    """The runs that are timed: what, whose, the run with `{}` for its number, that number, and the
+    """Yields the timed runs: what, whose, the command with `{}` for the number, that number, the
     divisor of its time."""
     if CORE_OF in have:
         for size in measures.SIZES:
@@ -78,8 +78,8 @@ def runs(have):
 
 
 def times(have):
-    """The times: each run is made once in each turn, beside the others, and the least that a run of
-    nothing takes is taken off."""
+    """Returns the times. The runs are interleaved, and the least time of an empty run is
+    subtracted."""
     wanted = list(runs(have))
     told = {(what, whose): ([], []) for what, whose, *_ in wanted}
     for _ in range(REPETITIONS):
@@ -96,8 +96,8 @@ def times(have):
 
 
 def wakes(have):
-    """How long after a return a get that sleeps returns: the least median of runs that take turns,
-    with its 95th percentile."""
+    """Returns the time from a return to the end of a sleeping get: the least median of interleaved
+    runs, with its 95th percentile."""
     runs = {LIVE_OF: [programs.LIVE, "wake", WAKES], R2D2_OF: [programs.beside("r2d2"), "wake", WAKES, "1"]}
     told = {whose: [] for whose in runs if whose in have}
     for _ in range(REPETITIONS):
@@ -108,8 +108,8 @@ def wakes(have):
 
 
 def shared(have, held, long):
-    """How 32 tasks share four connections, which each holds for such a while: whose, how many gets
-    time out, and the rounds of each."""
+    """Yields the shares of 32 tasks in four connections, each held as `held` says: whose, the number
+    of gets that time out, and the rounds of each task."""
     for whose, of, mode in SHARING:
         if of in have:
             late, *rounds = programs.ran([programs.beside(POOLS[of]), f"{mode}-{held}", long, "4", "32"]).split()
@@ -117,13 +117,13 @@ def shared(have, held, long):
 
 
 def shares(have):
-    """The rounds of each task, of one run of each pool."""
+    """Returns the rounds of each task, from one run of each pool."""
     rows = [["what", "whose", "gets that timed out", "rounds of each"]]
     return rows + [["32 tasks over 4 connections", whose, late, " ".join(map(str, rounds))] for whose, late, rounds in shared(have, "sleep", LONG)]
 
 
 def loads(have):
-    """The rounds that all tasks make in a second: the median of runs by turns."""
+    """Returns the rounds of all tasks in a second: the median of interleaved runs."""
     rows = [["what", "whose", "rounds a second"]]
     for held in measures.HELD:
         told = {}
@@ -135,7 +135,7 @@ def loads(have):
 
 
 def measured(part, have):
-    """The notes and rows of a part."""
+    """Returns the notes and rows of a part."""
     before, notes = load(), taken()
     if part == "instructions":
         rows = [["what", "whose", "instructions"]]

@@ -39,7 +39,7 @@ def text(x, y, words, kind="", anchor="start"):
 
 
 def picture(tall, title, below, parts):
-    """A picture of this height, with its title, a line below it, and its parts."""
+    """Returns a picture of this height, with a title, a line below it, and its parts."""
     head = f'<svg xmlns="http://www.w3.org/2000/svg" viewBox="0 0 {WIDTH} {tall}" width="{WIDTH}" height="{tall}" role="img">'
     lines = [head, f"<title>{title}</title>", style(), f'<rect class="back" width="{WIDTH}" height="{tall}"/>',
              text(16, 26, title, "t"), text(16, 44, below, "s"), *parts, "</svg>"]
@@ -47,7 +47,7 @@ def picture(tall, title, below, parts):
 
 
 def bars(title, below, groups):
-    """Bars to the right, in groups: a name, and what bars it has, each whose, and its figure."""
+    """Draws horizontal bars in groups. A group has a name, and for each bar its pool and figure."""
     greatest = max(figure for _, each in groups for _, figure in each)
     parts, y = [], TITLE + 14
     for name, each in groups:
@@ -64,14 +64,14 @@ def bars(title, below, groups):
 
 
 def steps(greatest):
-    """Where the lines across stand: at most six, at round numbers."""
+    """Returns the values of the grid lines: at most six round numbers."""
     unit = 10 ** math.floor(math.log10(greatest))
     unit = next(unit * by for by in (0.2, 0.5, 1, 2, 5) if greatest / (unit * by) <= 5.5)
     return [unit * at for at in range(math.ceil(greatest / unit) + 1)]
 
 
 def apart(places):
-    """The same places, each at least 16 from the one above it."""
+    """Returns the same positions, each at least 16 below the one above it."""
     moved, last = {}, -math.inf
     for key in sorted(places, key=places.get):
         last = moved[key] = max(places[key], last + 16)
@@ -79,8 +79,8 @@ def apart(places):
 
 
 def lines(title, below, across, up, marks, drawn):
-    """Lines over marks, which are places from 0 to 1 with their names; each line is whose, and a
-    figure for each mark."""
+    """Draws a line for each pool, with a figure for each mark. Marks are positions from 0 to 1 with
+    names."""
     marks_up = steps(max(figure for each in drawn.values() for figure in each))
     foot, wide = TOP_OF + TALL, WIDTH - LEFT - RIGHT
     parts = [text(16, TOP_OF - 12, up, "s")]
@@ -103,7 +103,7 @@ def lines(title, below, across, up, marks, drawn):
 
 
 def figures_of(table, whats, whose, at=0):
-    """The figures of these, where all were measured."""
+    """Returns the figures of these, or None if one was not measured."""
     each = [table[(what, whose)][at] for what in whats if (what, whose) in table]
     return [float(one) for one in each] if len(each) == len(whats) else None
 
@@ -123,7 +123,7 @@ def pair(parts):
 
 
 def sized(table, name):
-    """The numbers that such rows are of."""
+    """Returns the numbers in the names of these rows."""
     return sorted({int(what.removeprefix(name).replace(",", "")) for what, _ in table if what.startswith(name)})
 
 
@@ -131,8 +131,7 @@ def crowd(parts):
     table = figures.table(parts, "times")
     sizes = sized(table, "a crowd of ")
     drawn = drawn_of(table, [f"a crowd of {size:,}" for size in sizes], (CORE_OF, LIVE_OF, CRATE_OF, ORIGINAL_OF), lambda one: one / 1e6)
-    # the core and the live pool stand in one picture here: the core is left out where both were
-    # measured
+    # the picture has the core or the live pool: the core is left out if both were measured
     drawn = {whose: each for whose, each in drawn.items() if whose != CORE_OF or LIVE_OF not in drawn}
     return drawn and lines("A crowd that waits for one connection", "All wait and are served one by one, polled by hand in one thread; the best of nine runs; less is better",
                            "gets that wait", "milliseconds for all of them", [(size / sizes[-1], f"{size:,}") for size in sizes], drawn)
@@ -149,7 +148,7 @@ def threads(parts):
 
 
 def shares(parts):
-    """The rounds of each task, from the least on."""
+    """Draws the rounds of each task, the least first."""
     table = figures.table(parts, "shares")
     drawn = {whose: list(map(float, table[what, whose][1].split())) for what, whose in table}
     many = max(map(len, drawn.values()), default=0)
@@ -159,7 +158,7 @@ def shares(parts):
 
 
 def drawings():
-    """What each picture, and the page of the tables, is to be, by its file."""
+    """Returns the text of each picture and of the page with the tables, by its file."""
     parts = figures.read()
     made = {"pair": pair(parts), "crowd": crowd(parts), "threads": threads(parts), "shares": shares(parts)}
     return {os.path.join(TOP, "docs", f"{name}.svg"): drawn for name, drawn in made.items() if drawn} | {tables.README: tables.readme(parts)}
@@ -172,7 +171,7 @@ def write():
 
 
 def stale():
-    """The pictures and pages that are not those of the kept figures."""
+    """Returns the pictures and pages that differ from the kept figures."""
     for path, drawn in drawings().items():
         told = None
         if os.path.exists(path):

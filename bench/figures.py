@@ -7,12 +7,12 @@ PATH = os.path.join(os.path.dirname(os.path.abspath(__file__)), "figures.txt")
 HEAD = """What a get costs, beside other pools. `bench/compare.py` wrote this file; `bench/draw.py` draws docs/*.svg from it, and `bench/bar.py`
 compares with it. bench/README.md explains each line.
 """
-# how a note begins that is of the figures of one pool alone, which an earlier run measured
+# the start of a note about one pool's figures, measured by an earlier run
 EARLIER = "Figures of {}, not measured by this run: "
 
 
 def read():
-    """Each part's notes and rows, by the part's name. Empty if there is no file yet."""
+    """Returns each part's notes and rows, by the part's name. Empty if there is no file yet."""
     parts = {}
     if not os.path.exists(PATH):
         return parts
@@ -40,19 +40,19 @@ def write(parts):
 
 
 def table(parts, name):
-    """A part's figures: the cells after the first two, by those two. The first row names the
+    """Returns a part's figures: the cells after the first two, by those two. The first row names the
     columns."""
     return {(row[0], row[1]): row[2:] for row in parts.get(name, ([], [[]]))[1][1:]}
 
 
 def pool_of(whose):
-    """The pool whose program a figure was measured by."""
+    """Returns the pool whose program measured a figure."""
     return PART_OF.get(whose, whose)
 
 
 def notes_of(part, pool):
-    """The notes about the figures of this pool: those of an earlier run, if its figures are of one,
-    or those of all."""
+    """Returns the notes about this pool's figures: those of an earlier run if there are any, else
+    those of all."""
     notes, _ = part
     start = EARLIER.format(pool)
     return [note.removeprefix(start) for note in notes if note.startswith(start)] or [note for note in notes if not is_earlier(note)]
@@ -63,8 +63,8 @@ def is_earlier(note):
 
 
 def merged(before, measured, have):
-    """What was measured of these pools, and behind it the figures that were kept before of all
-    others, with their notes."""
+    """Returns the new figures of these pools, followed by the kept figures of all others, with their
+    notes."""
     (notes, rows), (_, old) = measured, before
     others = [row for row in old[1:] if pool_of(row[1]) not in have]
     for pool in dict.fromkeys(pool_of(row[1]) for row in others):

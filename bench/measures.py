@@ -1,4 +1,4 @@
-"""What is counted and how: instructions by callgrind, bytes by massif, times by the kernel."""
+"""The measurements: instructions by callgrind, bytes by massif, times by the kernel."""
 import os
 import re
 import statistics
@@ -19,8 +19,8 @@ SIZES = (1, 10, 1_000, 100_000)
 # which pool each of the others is a part of
 PART_OF = {ORIGINAL_CORE: ORIGINAL_OF, FREE_CORE: ORIGINAL_OF, FAIR_OF: CRATE_OF}
 FEW, MANY = 1_000, 11_000
-# gets that wait: of the lesser run and of the greater one, if all wait at once, and if they wait in
-# batches of 16
+# waiting gets of the smaller and of the larger run, if all wait at once, and if they wait in batches
+# of 16
 CROWD, BATCHES = (12_500, 25_000), (3_200, 16_000)
 SERVED, CANCELLED = "a waiting get, served", "a waiting get, cancelled"
 # threads that share a pool: how many, and its size
@@ -36,29 +36,29 @@ def round_of(size):
 
 
 def pair_of(threads, size, is_default):
-    """A pair in so many threads: with the default settings, or with the check off."""
+    """Names a pair in this many threads: with the default settings, or with the check off."""
     return f"{settings_of(is_default)}, {threads} thread{'' if threads == 1 else 's'}, pool of {size}"
 
 
 def settings_of(is_default, wide=8):
-    """A pair with the default settings, or with the check off, over connections of so many
+    """Names a pair with the default settings, or with the check off, over connections of this many
     bytes."""
     return f"a pair, {'default settings' if is_default else 'check off'}{'' if wide == 8 else f', {wide} bytes'}"
 
 
 def profiled(tool, words, *more):
-    """What valgrind prints about a run."""
+    """Returns valgrind's report about a run."""
     done = subprocess.run(["valgrind", f"--tool={tool}", *more, *words], capture_output=True, text=True, timeout=LIMIT, check=True)
     return done.stderr
 
 
 def instructions(words):
-    """How many instructions a run takes."""
+    """Returns the instructions of a run."""
     return int(re.search(r"Collected : (\d+)", profiled("callgrind", words, "--callgrind-out-file=/dev/null")).group(1))
 
 
 def between(words, few, many):
-    """The instructions of a round: by how many a run of `many` rounds exceeds a run of `few`,
+    """Returns the instructions of a round: by how many a run of `many` rounds exceeds a run of `few`,
     divided by the difference of the rounds. `{}` in the words is replaced by the number of
     rounds."""
     def run(number):
@@ -75,8 +75,8 @@ def beside(whose, mode, size, wide=8):
 
 
 def counts(have):
-    """What is counted of these pools: what, whose, its run, the numbers of rounds of both runs, and
-    what is subtracted, as a run and how often."""
+    """Yields the counts of these pools: what, whose, the command, the rounds of both runs, and a run
+    that is subtracted, with its number."""
     if CORE_OF in have:
         for size in SIZES:
             yield round_of(size), CORE_OF, [CORE, "rounds", str(size), "{}"], FEW, MANY, None
@@ -100,7 +100,7 @@ def counts(have):
 
 
 def counts_of(whose):
-    """The same of one of the pools for Rust."""
+    """Yields the counts of one of the pools for Rust."""
     for is_default, mode in ((True, "check"), (False, "hand")):
         for wide in WIDTHS:
             yield settings_of(is_default, wide), whose, beside(whose, mode, 4, wide), FEW, MANY, None
@@ -112,7 +112,7 @@ def counts_of(whose):
 
 
 def counted(rows):
-    """The instructions of each of these: what, whose, and how many."""
+    """Yields the instructions of each of these: what, whose, and the count."""
     known = {}
     for what, whose, words, few, many, off in rows:
         figure = between(words, few, many)
@@ -126,7 +126,7 @@ def counted(rows):
 
 
 def kept_bytes(words):
-    """The bytes that a run keeps allocated through the longest part of it, by massif."""
+    """Returns the bytes that a run keeps allocated during the longest part of it, by massif."""
     with tempfile.TemporaryDirectory() as folder:
         path = os.path.join(folder, "massif")
         profiled("massif", words, f"--massif-out-file={path}", "--time-unit=i", "--max-snapshots=1000", "--detailed-freq=1000000")
@@ -140,14 +140,15 @@ def kept_bytes(words):
     return max(lasted, key=lasted.get)
 
 
-# where tables that double are just full, as ours have entries of their own, and where all have just
-# doubled
+# sizes at which doubling tables are just full (ours have entries of their own), and at which all have
+# just doubled
 OURS_FULL, FULL, DOUBLED = 4_031, 4_096, 4_097
 
 
 def heaps(have):
-    """The bytes beyond the first of them: what, whose, and the figure, for an idle connection, with
-    its number of 8 bytes, and a waiting get. The median of three runs, as r2d2 opens by threads."""
+    """Yields the bytes of each further idle connection, with its number of 8 bytes, and of each
+    further waiting get: what, whose, and the figure. It is the median of three runs, as r2d2 opens
+    connections in threads."""
     def kept(words):
         return statistics.median(kept_bytes(words) for _ in range(3))
     runs = []
@@ -170,7 +171,7 @@ def heaps(have):
 
 
 def timed(words):
-    """The nanoseconds that a run takes by the wall, and by its processors."""
+    """Returns the nanoseconds of a run: wall time, and processor time."""
     start = time.monotonic_ns()
     with subprocess.Popen(words, stdout=subprocess.DEVNULL) as process:
         _, status, used = os.wait4(process.pid, 0)

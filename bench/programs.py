@@ -24,7 +24,7 @@ RUSTC, VALGRIND, KIT = ["rustc", "--version"], ["valgrind", "--version"], ["rt",
 
 
 def ran(words, folder=HERE, **more):
-    """What a command prints, or None if it fails or does not exist."""
+    """Returns the output of a command, or None if it fails or does not exist."""
     try:
         done = subprocess.run(words, cwd=folder, capture_output=True, text=True, **more)
     except OSError:
@@ -37,7 +37,7 @@ def lacks(what):
 
 
 def with_cargo():
-    """The environment for cargo: Debian's packages of crates if they are installed, else cargo's
+    """Returns cargo's environment: Debian's packages of crates if they are installed, else cargo's
     own registry."""
     home = (ran([os.path.join(TOP, "rust", "registry"), os.path.join(WORK, "cargo")]) or "").strip()
     return dict(os.environ, **({"CARGO_HOME": home} if home else {}))
@@ -50,7 +50,7 @@ def write(path, text):
 
 
 def fetched(name, wanted, environment):
-    """The folder of the last dependency's sources if cargo finds them all, else None."""
+    """Returns the folder of the last dependency's sources if cargo finds them all, else None."""
     folder = os.path.join(WORK, "probes", name)
     shutil.rmtree(folder, ignore_errors=True)
     lines = "\n".join(f'{crate} = "{version}"' for crate, version in wanted)
@@ -67,8 +67,8 @@ def fetched(name, wanted, environment):
 
 
 def is_original_copied(folder):
-    """Copies the original's crate from this folder, and adds a module with rounds of its core.
-    Whether there is such a copy; if the folder is None, of an earlier run."""
+    """Copies the original's crate from this folder, and adds a module with rounds of its core. If
+    the folder is None, an earlier run's copy serves. Returns whether there is a copy."""
     if folder is None:
         return os.path.isdir(ORIGINAL)
     out = ORIGINAL
@@ -87,14 +87,14 @@ def is_original_copied(folder):
 
 
 def beside(pool, wide=8):
-    """The program of one of the pools for Rust, over connections of so many bytes. Each has a
-    program of its own, so that its code does not depend on the others."""
+    """Returns the path of the program of one of the pools for Rust, over connections of this many
+    bytes. Each has a program of its own, so that its code does not depend on the others."""
     return os.path.join(WORK, "target", "release", f"beside-{pool}-{wide}")
 
 
 def build_pools(folder, wanted=("crate", "original", "r2d2")):
-    """Builds the programs of these pools. The names of those that were built. The original's crate
-    is in the folder; if that is None, in cargo's registry or in the copy of an earlier run."""
+    """Builds the programs of these pools, and returns the names of those that were built. The
+    original's crate is in the folder; if that is None, in cargo's registry or in an earlier copy."""
     if shutil.which("cargo") is None:
         lacks(f"{', '.join(wanted)} (no cargo)")
         return []
@@ -115,7 +115,7 @@ def build_pools(folder, wanted=("crate", "original", "r2d2")):
 
 
 def is_pool_built(pool, wide, needs, environment):
-    """Builds a program over these dependencies. Whether that worked."""
+    """Builds a program over these dependencies. Returns whether that worked."""
     folder = os.path.join(WORK, f"{pool}-{wide}")
     needed = "\n".join(needs)
     # the features that it is not built with are named too, so that the compiler knows them
@@ -149,7 +149,7 @@ debug = 1
 
 
 def is_core_built():
-    """Builds the core's program. Whether that worked."""
+    """Builds the core's program. Returns whether that worked."""
     if shutil.which("cargo") is None:
         lacks("the core (no cargo)")
         return False
@@ -161,7 +161,7 @@ def is_core_built():
 
 
 def is_live_built():
-    """Builds the live pool's program, with the kit. Whether that worked."""
+    """Builds the live pool's program, with the Rattle toolchain. Returns whether that worked."""
     if shutil.which("rt") is None:
         lacks("the live pool (no kit)")
         return False
@@ -173,19 +173,19 @@ def is_live_built():
 
 
 def is_live_there():
-    """Whether the live pool's program was built by an earlier run."""
+    """Returns whether an earlier run built the live pool's program."""
     if not os.path.exists(LIVE):
         lacks("the live pool (its program is not built)")
     return os.path.exists(LIVE)
 
 
 def version(words):
-    """What a tool says of its version, or nothing if it does not exist."""
+    """Returns the version that a tool prints, or nothing if it does not exist."""
     return (ran(words) or "").strip()
 
 
 def dependencies():
-    """The versions of the crates that the programs of the pools for Rust are built over."""
+    """Returns the versions of the crates under the programs of the pools for Rust."""
     found = {}
     for pool in ("crate", "original", "r2d2"):
         path = os.path.join(WORK, f"{pool}-8", "Cargo.lock")
@@ -196,7 +196,7 @@ def dependencies():
 
 
 def machine():
-    """The processor's name, and how many there are."""
+    """Returns the processor's name and the number of processors."""
     with open("/proc/cpuinfo", encoding="utf-8") as told:
         text = told.read()
     name = re.search(r"^model name\s*: (.*)$", text, re.M)

@@ -1,4 +1,4 @@
-"""The tables of bench/README.md, written from the kept figures, each between a line `<!-- NAME -->`
+"""Writes the tables of bench/README.md from the kept figures, each between a line `<!-- NAME -->`
 and a line `<!-- end -->`."""
 import os
 import re
@@ -35,7 +35,7 @@ def number(cell):
 
 
 def cell(parts, part, what, whose):
-    """A figure: of times the median, with the least; of wakes the median, with the 95th
+    """Returns a figure: of times the median, with the least; of wakes the median, with the 95th
     percentile."""
     found = figures.table(parts, part).get((what, whose))
     if not found:
@@ -55,7 +55,7 @@ def table(parts, rows, columns):
 
 
 def readme(parts):
-    """The page with its tables as the kept figures have them."""
+    """Returns the page with its tables as the kept figures have them."""
     with open(README, encoding="utf-8") as told:
         text = told.read()
     made = {"pools": table(parts, PAIRS, POOLS), "loads": table(parts, LOADS, (CRATE_OF, FAIR_OF, ORIGINAL_OF)), "core": table(parts, ROUNDS, (CORE_OF, ORIGINAL_CORE))}

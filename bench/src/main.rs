@@ -38,13 +38,13 @@ fn median(mut measure: impl FnMut() -> f64) -> f64 {
     figures[REPETITIONS / 2]
 }
 
-/// Returns the checksum of so many rounds: connections are served in turn.
+/// Returns the checksum of this many rounds: connections are served in turn.
 fn rounds_sum(size: u64, rounds: u64) -> u64 {
     let (turns, rest) = (rounds / size, rounds % size);
     turns * (size * (size + 1) / 2) + rest * (rest + 1) / 2
 }
 
-/// Returns the nanoseconds of a round over so many connections, without their opening.
+/// Returns the nanoseconds of a round over `size` connections, which are open before.
 fn core_round(size: u32) -> f64 {
     let (opening, none) = timed(|| serving::rounds(size, 0));
     assert_eq!(none, Some(0));
@@ -53,7 +53,7 @@ fn core_round(size: u32) -> f64 {
     (whole - opening) / ROUNDS as f64
 }
 
-/// Returns the nanoseconds in which one of so many connections is opened and served.
+/// Returns the nanoseconds in which one of this many connections is opened and served.
 fn core_drain(size: u32) -> f64 {
     let (whole, sum) = timed(|| serving::drain(size));
     assert_eq!(sum, Some(rounds_sum(size.into(), size.into())));

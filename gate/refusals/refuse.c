@@ -1,6 +1,7 @@
-// A heap that refuses, to be loaded before the C library's (LD_PRELOAD). Of the requests for memory that a program makes it refuses the
-// REFUSE_AT-th, and where REFUSE_ALL is set every later one too, or with REFUSE_COUNT so many in all; the others it hands on. Of a run that makes fewer it says so at its end.
-// It includes no header, as a kit's compiler has none.
+// A heap that refuses memory, loaded before the C library's (LD_PRELOAD). It refuses request number
+// REFUSE_AT of a program; if REFUSE_ALL is set every later one, too; with REFUSE_COUNT that many in
+// all. It passes the others on. If a run makes fewer requests, it prints that at the end.
+// It includes no header, as the toolchain's compiler has none.
 
 char *getenv(const char *name);
 unsigned long strtoul(const char *text, char **end, int base);

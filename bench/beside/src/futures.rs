@@ -95,7 +95,7 @@ macro_rules! runs {
                 served
             }
 
-            /// Runs `rounds` in so many threads.
+            /// Runs `rounds` in this many threads.
             fn shared(pool: &Pool<Numbers>, count: u64, threads: u32) -> u64 {
                 let runtime = runtime::Handle::current();
                 thread::scope(|scope| {
@@ -108,7 +108,7 @@ macro_rules! runs {
                 })
             }
 
-            /// Checks out so many connections.
+            /// Checks out this many connections.
             fn taken(pool: &Pool<Numbers>, size: u32) -> Vec<PooledConnection<'_, Numbers>> {
                 (0..size).filter_map(|_| polled(pin!(pool.get()))?.ok()).collect()
             }
@@ -195,7 +195,7 @@ macro_rules! runs {
                 rounds
             }
 
-            /// Runs such tasks for so many milliseconds. Returns how many gets timed out, at a
+            /// Runs such tasks for this many milliseconds. Returns how many gets timed out, at a
             /// second, and the rounds of each task, sorted.
             pub fn shares(run: &Run) -> Option<String> {
                 let builder = Pool::builder()

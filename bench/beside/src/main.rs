@@ -8,9 +8,9 @@
 //!
 //! - `hand`: a get and its return, with the check off; `free`: the same without limits on ages;
 //!   `check`: with the default settings, so with the check on;
-//! - `threads`: in so many threads, by default four, so many rounds each, with the check off;
+//! - `threads`: in a number of threads, by default four, with the check off;
 //!   `threads-check`: with the default settings;
-//! - `crowd`: so many gets wait at once for the connections, which are all checked out, and are
+//! - `crowd`: this many gets wait at once for the connections, which are all checked out, and are
 //!   served one by one; `crowd25000`: the same in 25,000 boxes, whatever the number of gets;
 //!   `crowd16`: they come in batches of 16, each of which is served before the next; `let-go25000`,
 //!   `let-go16`: they are cancelled instead; `wait`: they wait for a while;
@@ -18,7 +18,7 @@
 //!   two figures;
 //! - `core`: rounds of the original's locked core alone; `core-free`: the same without limits on
 //!   ages;
-//! - `tasks-HELD`: for so many milliseconds so many tasks get a connection, hold it as HELD says
+//! - `tasks-HELD`: for some milliseconds a number of tasks get a connection, hold it as HELD says
 //!   (`nothing`, `yield`, `compute` for 20 microseconds, `sleep` of a millisecond) and start again;
 //!   `fair-tasks-HELD`: the same with the crate's `fair_after` of a millisecond. It prints how many
 //!   gets timed out, and the rounds of each task, sorted;
@@ -37,7 +37,7 @@ use numbers::{Connection, Numbered, Numbers};
 use std::env;
 use std::process::ExitCode;
 
-/// What one run is to do.
+/// The settings of one run.
 pub struct Run {
     pub mode: String,
     pub count: u64,

@@ -48,7 +48,7 @@ fn rounds(pool: &Pool<Numbers>, count: u64) -> u64 {
     served
 }
 
-/// Runs `rounds` in so many threads.
+/// Runs `rounds` in this many threads.
 fn shared(pool: &Pool<Numbers>, count: u64, threads: u32) -> u64 {
     thread::scope(|scope| {
         let all: Vec<_> = (0..threads).map(|_| scope.spawn(|| rounds(pool, count))).collect();
@@ -56,7 +56,7 @@ fn shared(pool: &Pool<Numbers>, count: u64, threads: u32) -> u64 {
     })
 }
 
-/// Two threads take turns with one connection, so many rounds each, and sleep in their gets.
+/// Two threads take turns with one connection, this many rounds each, and sleep in their gets.
 /// Returns the median and the 95th percentile of the nanoseconds from a return until the get that
 /// waits for it returns.
 pub fn woken(rounds: u64) -> Option<String> {

@@ -18,25 +18,25 @@ use Rattle.bb8_tasks.specs.declared.rounds.Round.TheVariants.{Failed, Complete, 
 use Rattle.bb8_tasks.specs.Building.{BuildingPolls}
 use Rattle.bb8_tasks.specs.Dues.{earliest}
 use Rattle.bb8_tasks.specs.Sweeping.{AreFor}
-use Rattle.bb8_lock.specs.Parts.{HasBegun}
+use Rattle.bb8_lock.specs.Permits.{HasBegun}
 use Rattle.bb8.specs.declared.building.Building.{Building}
 use Rattle.bb8.specs.declared.building.Plan.{Plan}
 use Rattle.bb8.specs.declared.pool.Pool.{Pool}
 use Rattle.bb8.specs.Choices.{Choices}
 use Rattle.bb8.specs.Drivers.{RestsBriefly}
-use Rattle.bb8_lock.specs.Chains.{Answers}
+use Rattle.bb8_lock.specs.Traces.{Answers}
 use Rattle.bb8_lock.specs.Scope.{Own, OwnLeaves, rests}
 use Rattle.bb8_lock.specs.Opening.{opener, OwnRounds, OwnDropsTasks}
-use Rattle.bb8_lock.specs.declared.locked.Parts.{Ghosts as PartsOf}
+use Rattle.bb8_lock.specs.declared.locked.Permits.{Ghosts as PermitsOf}
 use Rattle.bb8_lock.specs.Words.{ManagerOf, DebugOf, SinkOf, CustomizerOf, ClockOf}
 use Rattle.bb8.specs.Pools.{clock_in, customizer_in, made_in, manager_in, settings_in, sink_in}
 
-module _ {G L M S Z K R C E N V A : Type 0} {m : ManagerOf M C E N V} {d : DebugOf E} {s : SinkOf S E} {z : CustomizerOf Z C E A} {k : ClockOf K} {l : PartsOf L} {p : LedgerOf L} where
+module _ {G L M S Z K R C E N V A : Type 0} {m : ManagerOf M C E N V} {d : DebugOf E} {s : SinkOf S E} {z : CustomizerOf Z C E A} {k : ClockOf K} {l : PermitsOf L} {p : LedgerOf L} where
   -- The pool has what was planned, and began at a clock reading with this grant for its first
   -- connections.
   pub record IsOpened (plan : Plan G L M S Z K R C E N V A m d s z k l p) (claimed : Bool) (pool : Pool G L M S Z K R C E N V A m d s z k l) (grant : Grant) : Type 0 where
     pub settings : settings_in pool ≡ plan.builder.settings
-    pub first : HasBegun C (λ at. k.tells plan.clock at × (made_in pool ≡ at)) plan.builder.settings claimed grant
+    pub first : HasBegun C (λ at. k.reports plan.clock at × (made_in pool ≡ at)) plan.builder.settings claimed grant
     pub manager : manager_in pool ≡ plan.manager
     pub clock : clock_in pool ≡ plan.clock
     pub sink : sink_in pool ≡ plan.builder.error_sink
@@ -54,7 +54,7 @@ module _ {G L M S Z K R C E N V A : Type 0} {m : ManagerOf M C E N V} {d : Debug
   abbrev pub IsPlanned : Choices S Z → M → K → Building G L M S Z K R C E N V A m d s z k l p → Type 0
   IsPlanned builder manager clock building = PlansStage builder manager clock building.stage
 
-module _ {G L M S Z K R C E N V A : Type 0} {m : ManagerOf M C E N V} {d : DebugOf E} {s : SinkOf S E} {z : CustomizerOf Z C E A} {k : ClockOf K} {l : PartsOf L} where
+module _ {G L M S Z K R C E N V A : Type 0} {m : ManagerOf M C E N V} {d : DebugOf E} {s : SinkOf S E} {z : CustomizerOf Z C E A} {k : ClockOf K} {l : PermitsOf L} where
   -- if the first connections of a pool failed, the pool is dropped
   abbrev pub AfterFirst : Pool G L M S Z K R C E N V A m d s z k l → Round (List (Replenish C N A)) E → Type 0
   AfterFirst pool (Failed e) = OwnLeaves (arc_value pool.shared)
@@ -65,7 +65,7 @@ module _ {G L M S Z K R C E N V A : Type 0} {m : ManagerOf M C E N V} {d : Debug
   abbrev pub PoolRounds : Pool G L M S Z K R C E N V A m d s z k l → List (Replenish C N A) → Round (List (Replenish C N A)) E → Type 0
   PoolRounds pool tasks round = OwnRounds (arc_value pool.shared) tasks round × AfterFirst pool round
 
-module _ {G L M S Z K R C E N V A : Type 0} {m : ManagerOf M C E N V} {d : DebugOf E} {s : SinkOf S E} {z : CustomizerOf Z C E A} {k : ClockOf K} {l : PartsOf L} {p : LedgerOf L} where
+module _ {G L M S Z K R C E N V A : Type 0} {m : ManagerOf M C E N V} {d : DebugOf E} {s : SinkOf S E} {z : CustomizerOf Z C E A} {k : ClockOf K} {l : PermitsOf L} {p : LedgerOf L} where
   -- a poll of a build in this stage: its result, and the stage after it
   abbrev pub PollsStage : BuildingStage (Plan G L M S Z K R C E N V A m d s z k l p) (Pool G L M S Z K R C E N V A m d s z k l) (List (Replenish C N A))
       → Poll (Result (Pool G L M S Z K R C E N V A m d s z k l) (RunError E))

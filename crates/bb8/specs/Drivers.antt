@@ -7,12 +7,12 @@ use Rattle.bb8_tasks.specs.declared.turning.Turning.{Turning}
 use Rattle.bb8_tasks.specs.Dues.{driver_due}
 use Rattle.bb8_tasks.specs.Turns.{is_ended, DriverBegins, DriverTurns}
 use Rattle.bb8_lock.specs.declared.shared.Shared.{Shared}
-use Rattle.bb8_lock.specs.declared.bell.Rests.{Ghosts as RestsOf}
-use Rattle.bb8_lock.specs.declared.bell.Sleeper.TheVariants.{Driver as Sleeping}
+use Rattle.bb8_lock.specs.declared.signal.Rests.{Ghosts as RestsOf}
+use Rattle.bb8_lock.specs.declared.signal.Sleeper.TheVariants.{Driver as Sleeping}
 use Rattle.bb8_lock.specs.Scope.{rests, IsScopeOf, Scope}
 use Rattle.bb8_lock.specs.Opening.{opener, tasks_home}
 use Rattle.bb8_lock.specs.Turning.{OwnTurns}
-use Rattle.bb8_lock.specs.declared.locked.Parts.{Ghosts as PartsOf}
+use Rattle.bb8_lock.specs.declared.locked.Permits.{Ghosts as PermitsOf}
 use Rattle.bb8_lock.specs.Words.{as_nanos, ManagerOf, DebugOf, SinkOf, CustomizerOf, ClockOf, OpenerOf}
 use Rattle.bb8_tasks.specs.declared.home.Home.{Ghosts as HomeOf}
 use Rattle.bb8.specs.declared.driver.Driver.{Driver}
@@ -34,8 +34,8 @@ driver_rest None now longest = longest
 -- than until something is due, and 50 milliseconds at most.
 abbrev pub RestsUntil : {C E V A X : Type 0} → OpenerOf X C E V A → RestsOf X → Option Moment → X → X → Type 0
 RestsUntil {X = X} opener rests due x x' =
-    (rings : ℕ) × (x1 : X) × rests.counts x Sleeping rings x1
-    × ((at : Moment) × (x2 : X) × opener.tells x1 at x2 × rests.sleeps x2 Sleeping rings (driver_rest due at.0 50000000) x')
+    (signals : ℕ) × (x1 : X) × rests.counts x Sleeping signals x1
+    × ((at : Moment) × (x2 : X) × opener.reports x1 at x2 × rests.sleeps x2 Sleeping signals (driver_rest due at.0 50000000) x')
 
 -- the same, whenever something is due
 abbrev pub RestsBriefly : {C E V A X : Type 0} → OpenerOf X C E V A → RestsOf X → X → X → Type 0
@@ -46,31 +46,31 @@ RestsBriefly opener rests x x' = (due : Option Moment) × RestsUntil opener rest
 -- notified since it was counted, and the next turn follows.
 pub data Runs {T P : Type 0} (turns : T → ℕ → Moment → Turn → T → Type 0) (pauses : P → Bool → P → Type 0)
     (sleeps : ℕ → Moment → T → T → Type 0) : T → P → ℕ → Driven → T → Type 0 where
-  ends : (t t' : T) (rings : ℕ) (at : Moment) (g : P) (n : ℕ) (turn : Turn) (d : Driven) → turns t rings at turn t' → turn.ended ≡ true
+  ends : (t t' : T) (signals : ℕ) (at : Moment) (g : P) (n : ℕ) (turn : Turn) (d : Driven) → turns t signals at turn t' → turn.ended ≡ true
       → d ≡ record { turns = one_more n; ended = true } → Runs turns pauses sleeps t g n d t'
-  stops : (t t' : T) (rings : ℕ) (at : Moment) (g g' : P) (n : ℕ) (turn : Turn) (d : Driven) → turns t rings at turn t' → turn.ended ≡ false
+  stops : (t t' : T) (signals : ℕ) (at : Moment) (g g' : P) (n : ℕ) (turn : Turn) (d : Driven) → turns t signals at turn t' → turn.ended ≡ false
       → pauses g false g' → d ≡ record { turns = one_more n; ended = false } → Runs turns pauses sleeps t g n d t'
-  goes_on : (t t' t'' last : T) (rings : ℕ) (at : Moment) (g g' : P) (n : ℕ) (turn : Turn) (d : Driven) → turns t rings at turn t'
-      → turn.ended ≡ false → pauses g true g' → sleeps rings at t' t'' → Runs turns pauses sleeps t'' g' (one_more n) d last
+  goes_on : (t t' t'' last : T) (signals : ℕ) (at : Moment) (g g' : P) (n : ℕ) (turn : Turn) (d : Driven) → turns t signals at turn t'
+      → turn.ended ≡ false → pauses g true g' → sleeps signals at t' t'' → Runs turns pauses sleeps t'' g' (one_more n) d last
       → Runs turns pauses sleeps t g n d last
 
 -- the notifications of the drivers' signal are counted, the clock is read, and a turn is made at
 -- that moment
 abbrev pub TurnsOnce : {C E V A X : Type 0} → HomeOf X C → OpenerOf X C E V A → RestsOf X → ℕ → Bool → Turning C V A × X → ℕ → Moment → Turn
     → Turning C V A × X → Type 0
-TurnsOnce {X = X} home opener rests timeout retry before rings at turn after =
-    (x1 : X) × (x2 : X) × rests.counts before.1 Sleeping rings x1 × opener.tells x1 at x2
+TurnsOnce {X = X} home opener rests timeout retry before signals at turn after =
+    (x1 : X) × (x2 : X) × rests.counts before.1 Sleeping signals x1 × opener.reports x1 at x2
     × DriverTurns home opener timeout retry at before.0 x2 turn after.0 after.1
 
 -- the thread sleeps on that signal until something is due, and no longer than some bound; no clause
 -- says that it is the gate's
 abbrev pub SleepsOnce : {C V A X : Type 0} → RestsOf X → ℕ → Moment → Turning C V A × X → Turning C V A × X → Type 0
-SleepsOnce rests rings at before after =
-    (longest : ℕ) × rests.sleeps before.1 Sleeping rings (driver_rest (driver_due before.0) at.0 longest) after.1
+SleepsOnce rests signals at before after =
+    (longest : ℕ) × rests.sleeps before.1 Sleeping signals (driver_rest (driver_due before.0) at.0 longest) after.1
     × (after.0 ≡ before.0)
 
 -- a run of such turns on a pool, given what its handles share
-module _ {G L M S Z K R C E N V A : Type 0} {m : ManagerOf M C E N V} {d : DebugOf E} {s : SinkOf S E} {z : CustomizerOf Z C E A} {k : ClockOf K} {l : PartsOf L}
+module _ {G L M S Z K R C E N V A : Type 0} {m : ManagerOf M C E N V} {d : DebugOf E} {s : SinkOf S E} {z : CustomizerOf Z C E A} {k : ClockOf K} {l : PermitsOf L}
     (shared : Shared G L M S Z K R C E N V A m d s z k l) where
   abbrev pub OwnRuns : {P : Type 0} → (P → Bool → P → Type 0) → Turning C N A → P → Driven → Type 0
   OwnRuns pauses turning gate d =
@@ -78,7 +78,7 @@ module _ {G L M S Z K R C E N V A : Type 0} {m : ManagerOf M C E N V} {d : Debug
       × Runs (TurnsOnce (tasks_home shared) (opener shared) (rests shared) (as_nanos shared.config.connection_timeout)
       shared.config.retry_connection) pauses (SleepsOnce (rests shared)) (turning, x) gate 0 d last
 
-module _ {G L M S Z K R C E N V A : Type 0} {m : ManagerOf M C E N V} {d : DebugOf E} {s : SinkOf S E} {z : CustomizerOf Z C E A} {k : ClockOf K} {l : PartsOf L} where
+module _ {G L M S Z K R C E N V A : Type 0} {m : ManagerOf M C E N V} {d : DebugOf E} {s : SinkOf S E} {z : CustomizerOf Z C E A} {k : ClockOf K} {l : PermitsOf L} where
   -- whether a driver has ended
   abbrev pub has_ended : Driver G L M S Z K R C E N V A m d s z k l → Bool
   has_ended driver = is_ended driver.turning
@@ -96,7 +96,7 @@ module _ {G L M S Z K R C E N V A : Type 0} {m : ManagerOf M C E N V} {d : Debug
   -- the pool's clock is read, and a turn made at that moment
   abbrev pub TurnsDriverNow : Driver G L M S Z K R C E N V A m d s z k l → Turn → Driver G L M S Z K R C E N V A m d s z k l → Type 0
   TurnsDriverNow driver turn driver' =
-      (at : Moment) × k.tells (arc_value driver.shared).clock at × TurnsDriver at driver turn driver'
+      (at : Moment) × k.reports (arc_value driver.shared).clock at × TurnsDriver at driver turn driver'
 
   -- a run of a driver's turns, each at a reading of the pool's clock
   abbrev pub RunsDriver : {P : Type 0} → (P → Bool → P → Type 0) → Driver G L M S Z K R C E N V A m d s z k l → P → Driven → Type 0

@@ -4,16 +4,16 @@ use Rattle.std.specs.Prelude.{◌≡◌, ℕ, List, vec_len}
 use Rattle.std.specs.Arc.{arc_value}
 use Rattle.std.specs.List.{AllZip}
 use Rattle.std.specs.Vec.{with_item}
-use Rattle.bb8_lock.specs.declared.locked.Part.{Part}
+use Rattle.bb8_lock.specs.declared.locked.Permit.{Permit}
 use Rattle.bb8_lock.specs.Scope.{OwnReturns}
-use Rattle.bb8_lock.specs.declared.locked.Parts.{Ghosts as PartsOf}
+use Rattle.bb8_lock.specs.declared.locked.Permits.{Ghosts as PermitsOf}
 use Rattle.bb8_lock.specs.Words.{ManagerOf, DebugOf, SinkOf, CustomizerOf, ClockOf}
 use Rattle.bb8.specs.declared.guards.Guards.{Guards}
 use Rattle.bb8.specs.declared.guards.Ticket.{Ticket}
 use Rattle.bb8.specs.declared.pool.Pool.{Pool}
 use Rattle.bb8.specs.declared.pool.PooledConnection.{PooledConnection}
 
-module _ {G L M S Z K R C E N V A : Type 0} {m : ManagerOf M C E N V} {d : DebugOf E} {s : SinkOf S E} {z : CustomizerOf Z C E A} {k : ClockOf K} {l : PartsOf L} where
+module _ {G L M S Z K R C E N V A : Type 0} {m : ManagerOf M C E N V} {d : DebugOf E} {s : SinkOf S E} {z : CustomizerOf Z C E A} {k : ClockOf K} {l : PermitsOf L} where
   -- the connection of a guard
   abbrev pub connection_of : PooledConnection G L M S Z K R C E N V A m d s z k l → C
   connection_of guard = guard.taken.connection
@@ -57,7 +57,7 @@ module _ {G L M S Z K R C E N V A : Type 0} {m : ManagerOf M C E N V} {d : Debug
   -- this connection is returned where this ticket says, under its key
   abbrev pub ReturnsBy : Ticket G L M S Z K R C E N V A m d s z k l → C → Type 0
   ReturnsBy ticket connection =
-      (part : Part L) × OwnReturns ticket.shared.now (record { key = ticket.key; connection = connection; part = part })
+      (permit : Permit L) × OwnReturns ticket.shared.now (record { key = ticket.key; connection = connection; permit = permit })
 
   -- each guard of a list returns its connection
   abbrev pub ReturnsEach : Guards G L M S Z K R C E N V A m d s z k l → Type 0

@@ -16,9 +16,9 @@ pub use Rattle.bb8_types.specs.Settings
 pub use Rattle.bb8_gets.specs.Homes
 pub use Rattle.bb8_gets.specs.Polls
 pub use Rattle.bb8_gets.specs.Steps
-pub use Rattle.bb8_gets.specs.Told
-pub use Rattle.bb8_lock.specs.Chains
-pub use Rattle.bb8_lock.specs.Parts
+pub use Rattle.bb8_gets.specs.Outcomes
+pub use Rattle.bb8_lock.specs.Traces
+pub use Rattle.bb8_lock.specs.Permits
 pub use Rattle.bb8_lock.specs.Scope
 pub use Rattle.bb8_lock.specs.Opening
 pub use Rattle.bb8_lock.specs.Turning

@@ -7,7 +7,7 @@ use Rattle.bb8_types.specs.declared.api.errors.RunError.{RunError}
 use Rattle.bb8_gets.specs.declared.home.Taken.{Taken}
 use Rattle.bb8_gets.specs.declared.state.GetState.{GetState}
 use Rattle.bb8_gets.specs.declared.state.Stage.TheVariants.{Fresh}
-use Rattle.bb8_lock.specs.declared.locked.Part.{Part}
+use Rattle.bb8_lock.specs.declared.locked.Permit.{Permit}
 use Rattle.bb8.specs.declared.handles.BareHandle.{BareHandle}
 use Rattle.bb8.specs.declared.owned.OwnedConnection.{OwnedConnection}
 use Rattle.bb8.specs.declared.owned.GetOwnedFuture.{GetOwnedFuture}
@@ -15,12 +15,12 @@ use Rattle.bb8.specs.declared.owned.OwnedStage.{OwnedStage}
 use Rattle.bb8.specs.declared.owned.OwnedStage.TheVariants.{Refused, Open}
 use Rattle.bb8.specs.declared.pool.Pool.{Pool}
 use Rattle.bb8.specs.Handles.{IsHandleOf}
-use Rattle.bb8_lock.specs.Chains.{Answers}
+use Rattle.bb8_lock.specs.Traces.{Answers}
 use Rattle.bb8_lock.specs.Scope.{OwnCancelsAndLeaves, OwnLeaves, OwnPolls}
-use Rattle.bb8_lock.specs.declared.locked.Parts.{Ghosts as PartsOf}
+use Rattle.bb8_lock.specs.declared.locked.Permits.{Ghosts as PermitsOf}
 use Rattle.bb8_lock.specs.Words.{ManagerOf, DebugOf, SinkOf, CustomizerOf, ClockOf}
 
-module _ {G L M S Z K R C E N V A : Type 0} {m : ManagerOf M C E N V} {d : DebugOf E} {s : SinkOf S E} {z : CustomizerOf Z C E A} {k : ClockOf K} {l : PartsOf L} where
+module _ {G L M S Z K R C E N V A : Type 0} {m : ManagerOf M C E N V} {d : DebugOf E} {s : SinkOf S E} {z : CustomizerOf Z C E A} {k : ClockOf K} {l : PermitsOf L} where
   -- a guard with this connection instead of its own
   abbrev pub with_connection : OwnedConnection G L M S Z K R C E N V A m d s z k l → C → OwnedConnection G L M S Z K R C E N V A m d s z k l
   with_connection guard connection = record guard { taken = record guard.taken { connection = connection } }
@@ -39,7 +39,7 @@ module _ {G L M S Z K R C E N V A : Type 0} {m : ManagerOf M C E N V} {d : Debug
   BeginsOwned pool (Some (Open holding get)) = IsHandleOf (arc_value pool.shared) (Ok holding) × (get.stage ≡ Fresh)
 
   -- After a poll on the pool's lock: the handle moves into the guard; after an error it leaves.
-  abbrev pub AfterOwned : BareHandle G L M S Z K R C E N V A m d s z k l → GetState C V (Part L) → Poll (Result (Taken C (Part L)) (RunError E))
+  abbrev pub AfterOwned : BareHandle G L M S Z K R C E N V A m d s z k l → GetState C V (Permit L) → Poll (Result (Taken C (Permit L)) (RunError E))
       → Poll (Result (OwnedConnection G L M S Z K R C E N V A m d s z k l) (RunError E)) → Option (OwnedStage G L M S Z K R C E N V A m d s z k l) → Type 0
   AfterOwned holding get Pending r after = (r ≡ Pending) × (after ≡ Some (Open holding get))
   AfterOwned holding get (Ready (Err e)) r after = (r ≡ Ready (Err e)) × (after ≡ None) × OwnLeaves (arc_value holding.shared)
@@ -51,7 +51,7 @@ module _ {G L M S Z K R C E N V A : Type 0} {m : ManagerOf M C E N V} {d : Debug
   OwnedPolls None r after = (r ≡ Pending) × (after ≡ None)
   OwnedPolls (Some (Refused e)) r after = (r ≡ Ready (Err e)) × (after ≡ None)
   OwnedPolls (Some (Open holding get)) r after =
-      (given : Poll (Result (Taken C (Part L)) (RunError E))) × (polled : GetState C V (Part L))
+      (given : Poll (Result (Taken C (Permit L)) (RunError E))) × (polled : GetState C V (Permit L))
       × OwnPolls (arc_value holding.shared) get.stage given polled.stage
       × AfterOwned holding polled given r after
 

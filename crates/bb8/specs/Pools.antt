@@ -6,11 +6,11 @@ use Rattle.bb8_types.specs.Settings.{Settings, settings_of}
 use Rattle.bb8.specs.declared.pool.Pool.{Pool}
 use Rattle.bb8.specs.declared.get.future.GetFuture.{GetFuture}
 use Rattle.bb8_gets.specs.declared.state.Stage.{Stage}
-use Rattle.bb8_lock.specs.declared.locked.Part.{Part}
-use Rattle.bb8_lock.specs.declared.locked.Parts.{Ghosts as PartsOf}
+use Rattle.bb8_lock.specs.declared.locked.Permit.{Permit}
+use Rattle.bb8_lock.specs.declared.locked.Permits.{Ghosts as PermitsOf}
 use Rattle.bb8_lock.specs.Words.{ManagerOf, DebugOf, SinkOf, CustomizerOf, ClockOf}
 
-module _ {G L M S Z K R C E N V A : Type 0} {m : ManagerOf M C E N V} {d : DebugOf E} {s : SinkOf S E} {z : CustomizerOf Z C E A} {k : ClockOf K} {l : PartsOf L} where
+module _ {G L M S Z K R C E N V A : Type 0} {m : ManagerOf M C E N V} {d : DebugOf E} {s : SinkOf S E} {z : CustomizerOf Z C E A} {k : ClockOf K} {l : PermitsOf L} where
   -- the settings of a pool
   abbrev pub settings_in : Pool G L M S Z K R C E N V A m d s z k l → Settings
   settings_in pool = settings_of (arc_value pool.shared).config
@@ -20,7 +20,7 @@ module _ {G L M S Z K R C E N V A : Type 0} {m : ManagerOf M C E N V} {d : Debug
   manager_in pool = (arc_value pool.shared).manager
 
   -- the stage of a get between its polls
-  abbrev pub stage_of : GetFuture G L M S Z K R C E N V A m d s z k l → Stage C V (Part L)
+  abbrev pub stage_of : GetFuture G L M S Z K R C E N V A m d s z k l → Stage C V (Permit L)
   stage_of future = future.get.stage
 
   -- the error sink of a pool

@@ -1,19 +1,19 @@
 //! A pool for one thread, for small programs and tests.
 ghost use Rattle.std.specs.Prelude.{◌≡◌, ⊤, IfOk, true};
 ghost use Rattle.bb8_types.specs.Settings.{is_lawful};
-ghost use Rattle.bb8_lock.specs.Parts.{IsBlankOf};
+ghost use Rattle.bb8_lock.specs.Permits.{IsBlankOf};
 ghost use Rattle.bb8.specs.Drivers.{IsDriverOf};
 ghost use Rattle.bb8.specs.Services.{Basis, basis, basis_of};
 
 use crate::{Builder, Driver, Pool};
 use bb8_core::api::{Clock, Config, CustomizeConnection, ErrorSink, ManageConnection, Memory};
-use bb8_lock::{Locks, PoolParts};
+use bb8_lock::{Locks, PoolPermits};
 use std::marker::Brand;
 use std::sync::Wait;
 use std::sync::ledger::Blank;
 
-/// What one thread does with a pool and its driver, for any permits `L`. `Builder::with_pool` runs
-/// it.
+/// The work of one thread with a pool and its driver, for any permits `L`, run by
+/// `Builder::with_pool`.
 ///
 /// As in a `Service`, its method calls the pool by `PoolCalls` and the driver by `DriverCalls`. Its
 /// ghost members relate its arguments and its result, with what the pool was built of. One that is
@@ -35,7 +35,7 @@ pub trait User<
     ghost comes_to: { Self → Basis M S Z K → Self.Outcome → Type 0 } = { λ _ _ _. ⊤ };
 
     /// Runs over the pool, which has no connection yet, and its driver, which has made no turn.
-    fn run<L: PoolParts>(
+    fn run<L: PoolPermits>(
         &self,
         pool: &Pool<M, S, Z, K, R, L>,
         driver: &mut Driver<M, S, Z, K, R, L>,
@@ -52,7 +52,7 @@ fn run_with<
     Z: CustomizeConnection<M::Connection, M::Error>,
     K: Clock,
     R: Wait + AllocGlobal + Send + Sync + Drop + 'static,
-    L: PoolParts,
+    L: PoolPermits,
     V: User<M, S, Z, K, R>,
 >(
     builder: Builder<M, S, Z>,

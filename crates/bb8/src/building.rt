@@ -1,7 +1,7 @@
 //! The future of a pool that is being built, until it has its first connections.
 ghost use Rattle.std.specs.Prelude.{◌≡◌, true};
 ghost use Rattle.bb8_types.specs.Settings.{is_lawful};
-ghost use Rattle.bb8_lock.specs.Parts.{IsBlankOf};
+ghost use Rattle.bb8_lock.specs.Permits.{IsBlankOf};
 
 use crate::Builder;
 use crate::driver::rest_until;
@@ -11,7 +11,9 @@ use bb8_core::api::{
 };
 use bb8_core::internals::Grant;
 use bb8_gets::GetHome;
-use bb8_lock::{Belled, Given, Locks, NewPool, OpensScope, Parts, Shared, These, begin_pool};
+use bb8_lock::{
+    Locks, NewPool, OpensScope, Permits, PoolTypes, Shared, SignalLock, TypesOf, begin_pool,
+};
 pub use bb8_tasks::{BuildingStage, BuildingStep, Replenish, Round, Tasks};
 use futures::Future;
 use futures::task::{Context, Poll};
@@ -22,7 +24,7 @@ use std::sync::{Arc, Wait};
 
 /// The input of a build.
 #[derive(Drop)]
-pub(crate) struct Plan<G: Given, L: Parts> {
+pub(crate) struct Plan<G: PoolTypes, L: Permits> {
     pub builder: Builder<G::Manager, G::Sink, G::Customizer>,
     pub manager: G::Manager,
     pub clock: G::Clock,
@@ -46,7 +48,7 @@ pub(crate) trait MakesPool {
     fn make(self) -> Self::Made;
 }
 
-impl<G: Given<Runtime: Wait + AllocGlobal>, L: Parts> MakesPool for Plan<G, L> {
+impl<G: PoolTypes<Runtime: Wait + AllocGlobal>, L: Permits> MakesPool for Plan<G, L> {
     ghost use Rattle.std.specs.Prelude.{◌+◌, ◌^◌, ◌<◌, IfOk};
     ghost use Rattle.bb8.specs.Buildings.{PoolIsMade, IsOpened};
 
@@ -90,7 +92,7 @@ impl<G: Given<Runtime: Wait + AllocGlobal>, L: Parts> MakesPool for Plan<G, L> {
             config,
             made: at,
             total,
-            locked: Belled::new(locked),
+            locked: SignalLock::new(locked),
         };
         match Arc::new(alloc, shared) {
             Ok(shared) => Ok((Pool { shared, handle }, grant)),
@@ -126,10 +128,10 @@ impl<G: Given<Runtime: Wait + AllocGlobal>, L: Parts> MakesPool for Plan<G, L> {
 /// goes to the error sink. The first attempt that fails for good ends the build.
 ///
 /// A pending poll asks to be polled again at once; `BuildingCalls::wait` sleeps between its polls.
-/// If the future is dropped before it resolves, its approvals are given back and its pool is
+/// If the future is dropped before it resolves, its approvals are freed and its pool is
 /// dropped. Manager, customizer, sink and clock are called while the pool's lock is free. bb8's is
 /// an async function.
-pub struct Building<G: Given, L: Parts> {
+pub struct Building<G: PoolTypes, L: Permits> {
     stage: BuildingStage<Plan<G, L>, Pool<G, L>, Tasks<G::Connection, G::Connecting, G::Acquiring>>,
 }
 
@@ -147,13 +149,13 @@ impl<
     /// attempt that failed for good, and to `Memory` if memory was refused for the pool, for one of
     /// its first approvals or for their tasks; then everything is dropped. The settings must be
     /// lawful; bb8 panics otherwise.
-    pub fn build<K: Clock, R: Locks, L: Parts>(
+    pub fn build<K: Clock, R: Locks, L: Permits>(
         self,
         manager: M,
         clock: K,
         rt: R,
         blank: Blank,
-    ) -> Building<These<M, S, Z, K, R>, L>
+    ) -> Building<TypesOf<M, S, Z, K, R>, L>
         requires lawful { is_lawful self.settings ≡ true }
         requires parts { (L.name ≡ blank.name) × (L.parts ≡ blank.parts) }
         requires size { blank.parts ≡ self.settings.max_size }
@@ -181,7 +183,7 @@ trait EndsStage {
     fn end(stage: Self::BuildingStage);
 }
 
-impl<G: Given, L: Parts> EndsStage for Building<G, L> {
+impl<G: PoolTypes, L: Permits> EndsStage for Building<G, L> {
     ghost use Rattle.bb8.specs.Buildings.{EndsAt};
 
     type BuildingStage = BuildingStage<
@@ -204,7 +206,7 @@ impl<G: Given, L: Parts> EndsStage for Building<G, L> {
     }
 }
 
-impl<G: Given<Runtime: Wait>, L: Parts> Cancel for Building<G, L> {
+impl<G: PoolTypes<Runtime: Wait>, L: Permits> Cancel for Building<G, L> {
     ghost use Rattle.bb8.specs.Buildings.{CancelsBuilding};
 
     fn cancel(self)
@@ -214,7 +216,7 @@ impl<G: Given<Runtime: Wait>, L: Parts> Cancel for Building<G, L> {
     }
 }
 
-impl<G: Given, L: Parts> Drop for Building<G, L> {
+impl<G: PoolTypes, L: Permits> Drop for Building<G, L> {
     ghost use Rattle.bb8.specs.Buildings.{CancelsBuilding};
 
     fn drop(self)
@@ -235,7 +237,7 @@ trait OpensFirst {
     fn sweep(self, tasks: Self::Tasks) -> Self::BuildingStep;
 }
 
-impl<G: Given, L: Parts> OpensFirst for Pool<G, L> {
+impl<G: PoolTypes, L: Permits> OpensFirst for Pool<G, L> {
     ghost use Rattle.bb8_tasks.specs.Building.{Sweeps};
     ghost use Rattle.bb8.specs.Buildings.{PoolRounds};
 
@@ -290,7 +292,7 @@ trait Builds {
     fn rest(&self);
 }
 
-impl<G: Given<Runtime: Wait + AllocGlobal>, L: Parts> Builds for Building<G, L> {
+impl<G: PoolTypes<Runtime: Wait + AllocGlobal>, L: Permits> Builds for Building<G, L> {
     ghost use Rattle.bb8.specs.Buildings.{PollsBuilding, PollsStage, RestsAt};
 
     type BuildingStage = BuildingStage<
@@ -349,7 +351,7 @@ impl<G: Given<Runtime: Wait + AllocGlobal>, L: Parts> Builds for Building<G, L> 
     }
 }
 
-/// The calls of a build besides its polls. (A trait because of *trait-for-threads*.)
+/// Waits for a build. (A trait because of *trait-for-threads*.)
 pub trait BuildingCalls {
     /// The result of the build.
     type Answer;
@@ -365,7 +367,7 @@ pub trait BuildingCalls {
     fn wait(self, rt: &impl Wait) -> Self::Answer;
 }
 
-impl<G: Given<Runtime: Wait + AllocGlobal>, L: Parts> BuildingCalls for Building<G, L> {
+impl<G: PoolTypes<Runtime: Wait + AllocGlobal>, L: Permits> BuildingCalls for Building<G, L> {
     ghost use Rattle.bb8.specs.Buildings.{building_due, GivesBuilding, WaitsBuilding};
 
     type Answer = Result<Pool<G, L>, RunError<G::Error>>;
@@ -395,7 +397,7 @@ impl<G: Given<Runtime: Wait + AllocGlobal>, L: Parts> BuildingCalls for Building
     }
 }
 
-impl<G: Given<Runtime: Wait + AllocGlobal>, L: Parts> Future for Building<G, L> {
+impl<G: PoolTypes<Runtime: Wait + AllocGlobal>, L: Permits> Future for Building<G, L> {
     ghost use Rattle.std.specs.Prelude.{⊤};
     ghost use Rattle.futures.specs.Poll.{IfReady, OnPending};
     ghost use Rattle.futures.specs.Task.{Covers, Keeps};

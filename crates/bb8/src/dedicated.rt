@@ -3,8 +3,8 @@ ghost use Rattle.std.specs.Prelude.{◌≡◌};
 
 use crate::pool::Cancel;
 use bb8_core::api::Moment;
-use bb8_lock::{Given, OpensScope, Parts, Shared};
-pub use bb8_tasks::{Dedicated, Opened, Opening};
+use bb8_lock::{OpensScope, Permits, PoolTypes, Shared};
+pub use bb8_tasks::{Attempt, Dedicated, Opened};
 use futures::Future;
 use futures::task::{Context, Poll};
 use std::mem;
@@ -14,13 +14,13 @@ use std::mem;
 /// Each poll reads the pool's clock; none acquires the pool's lock. A pending one asks to be polled
 /// again at once. If it is dropped before it resolves, its attempt or connection is dropped. bb8's
 /// is an async function.
-pub struct DedicatedFuture<'a, G: Given, L: Parts> {
+pub struct DedicatedFuture<'a, G: PoolTypes, L: Permits> {
     pub(crate) shared: &'a Shared<G, L>,
     pub(crate) latest: Moment,
-    pub(crate) stage: Opening<G::Connection, G::Connecting, G::Acquiring>,
+    pub(crate) stage: Attempt<G::Connection, G::Connecting, G::Acquiring>,
 }
 
-impl<G: Given, L: Parts> Cancel for DedicatedFuture<'_, G, L> {
+impl<G: PoolTypes, L: Permits> Cancel for DedicatedFuture<'_, G, L> {
     ghost use Rattle.bb8.specs.Dedicated.{CancelsDedicated};
 
     fn cancel(self)
@@ -30,7 +30,7 @@ impl<G: Given, L: Parts> Cancel for DedicatedFuture<'_, G, L> {
     }
 }
 
-impl<G: Given, L: Parts> Drop for DedicatedFuture<'_, G, L> {
+impl<G: PoolTypes, L: Permits> Drop for DedicatedFuture<'_, G, L> {
     ghost use Rattle.bb8.specs.Dedicated.{CancelsDedicated};
 
     fn drop(self)
@@ -45,7 +45,7 @@ impl<G: Given, L: Parts> Drop for DedicatedFuture<'_, G, L> {
     }
 }
 
-impl<'a, G: Given, L: Parts> Future for DedicatedFuture<'a, G, L> {
+impl<'a, G: PoolTypes, L: Permits> Future for DedicatedFuture<'a, G, L> {
     ghost use Rattle.std.specs.Prelude.{⊤};
     ghost use Rattle.futures.specs.Poll.{IfReady, OnPending};
     ghost use Rattle.futures.specs.Task.{Covers, Keeps};
@@ -69,7 +69,7 @@ impl<'a, G: Given, L: Parts> Future for DedicatedFuture<'a, G, L> {
         ensures kept { Keeps cx.old cx.new }
     {
         let shared = self.shared;
-        let stage = mem::replace(&mut self.stage, Opening::Done);
+        let stage = mem::replace(&mut self.stage, Attempt::Done);
         let mut opening = Dedicated {
             latest: self.latest,
             stage,
@@ -78,7 +78,7 @@ impl<'a, G: Given, L: Parts> Future for DedicatedFuture<'a, G, L> {
         let Dedicated { latest, stage } = opening;
         self.latest = latest;
         match mem::replace(&mut self.stage, stage) {
-            Opening::Done => {}
+            Attempt::Done => {}
             _ => unreachable!(),
         }
         match answer {

@@ -9,7 +9,7 @@ use crate::pool::Pool;
 use bb8_core::api::{
     Clock, Config, CustomizeConnection, ErrorSink, ManageConnection, Memory, Moment,
 };
-use bb8_lock::{Given, OpensScope, Parts, PoolParts, Rests, Shared, Sleeper, These};
+use bb8_lock::{OpensScope, Permits, PoolPermits, PoolTypes, Rests, Shared, Sleeper, TypesOf};
 pub use bb8_tasks::Turn;
 use bb8_tasks::{Home, Opener, Turning};
 use std::alloc::Global;
@@ -27,7 +27,7 @@ use std::time::Duration;
 ///
 /// When it is dropped, it reads the pool's clock and gives the approvals of its tasks back under
 /// the pool's lock, for which it may wait.
-pub struct Driver<G: Given, L: Parts> {
+pub struct Driver<G: PoolTypes, L: Permits> {
     shared: Arc<Shared<G, L>, Global>,
     turning: Turning<G::Connection, G::Connecting, G::Acquiring>,
 }
@@ -57,7 +57,7 @@ pub struct Driven {
     pub ended: bool,
 }
 
-impl<G: Given<Runtime: Wait + AllocGlobal>, L: Parts> Driver<G, L> {
+impl<G: PoolTypes<Runtime: Wait + AllocGlobal>, L: Permits> Driver<G, L> {
     /// Returns a driver of the pool that has made no turn yet. It returns `Memory` only if memory
     /// for sharing the pool was refused.
     pub fn new(pool: &Pool<G, L>) -> Result<Self, Memory>
@@ -95,11 +95,11 @@ pub(crate) fn rest_until<C, E, X: Opener<C, E> + Rests>(pool: &mut X, due: Optio
     ensures until { RestsUntil X.Opener X.Rests due pool.old pool.new }
     ensures brief { RestsBriefly X.Opener X.Rests pool.old pool.new }
 {
-    let rings = pool.rings(Sleeper::Driver);
+    let signals = pool.signals(Sleeper::Driver);
     let at = pool.now();
     pool.sleep(
         Sleeper::Driver,
-        rings,
+        signals,
         rest(due, at, Duration::from_millis(50)),
     );
 }
@@ -134,7 +134,7 @@ pub trait DriverCalls {
     fn next_due(&self) -> Option<Moment>;
 }
 
-impl<G: Given<Runtime: Wait>, L: Parts> DriverCalls for Driver<G, L> {
+impl<G: PoolTypes<Runtime: Wait>, L: Permits> DriverCalls for Driver<G, L> {
     ghost use Rattle.bb8_tasks.specs.Dues.{driver_due};
     ghost use Rattle.bb8.specs.Drivers.{TurnsDriver, TurnsDriverNow};
 
@@ -165,7 +165,7 @@ impl<G: Given<Runtime: Wait>, L: Parts> DriverCalls for Driver<G, L> {
     }
 }
 
-impl<G: Given<Runtime: Wait>, L: Parts> Driver<G, L> {
+impl<G: PoolTypes<Runtime: Wait>, L: Permits> Driver<G, L> {
     ghost use Rattle.bb8.specs.Drivers.{RunsDriver};
 
     /// Makes turns, each at a reading of the pool's clock, until one has ended or the gate, asked
@@ -199,7 +199,7 @@ fn run<
 {
     let mut turns: u64 = 0;
     for _ in rt.forever() {
-        let rings = pool.rings(Sleeper::Driver);
+        let signals = pool.signals(Sleeper::Driver);
         let at = pool.now();
         let turn = turning.turn(at, pool, config);
         turns = turns.saturating_add(1);
@@ -213,7 +213,7 @@ fn run<
             };
         }
         let most = rest(turning.next_due(), at, gate.longest());
-        pool.sleep(Sleeper::Driver, rings, most);
+        pool.sleep(Sleeper::Driver, signals, most);
     }
     unreachable!()
 }
@@ -224,7 +224,7 @@ trait RunsTurns {
     fn run_turns<P: Gate>(&mut self, gate: &mut P) -> Driven;
 }
 
-impl<G: Given<Runtime: Wait>, L: Parts> RunsTurns for Driver<G, L> {
+impl<G: PoolTypes<Runtime: Wait>, L: Permits> RunsTurns for Driver<G, L> {
     ghost use Rattle.bb8.specs.Drivers.{RunsDriver};
 
     fn run_turns<P: Gate>(&mut self, gate: &mut P) -> Driven
@@ -241,7 +241,7 @@ impl<G: Given<Runtime: Wait>, L: Parts> RunsTurns for Driver<G, L> {
     }
 }
 
-impl<G: Given, L: Parts> Drop for Driver<G, L> {
+impl<G: PoolTypes, L: Permits> Drop for Driver<G, L> {
     ghost use Rattle.bb8_lock.specs.Turning.{OwnDropsTurning};
 
     fn drop(self)
@@ -260,8 +260,8 @@ struct Gated<D, P> {
     gate: P,
 }
 
-impl<G: Given<Runtime: Wait>, L: Parts, P: Gate + Drop> Job for Gated<Driver<G, L>, P> {
-    type Told = Driven;
+impl<G: PoolTypes<Runtime: Wait>, L: Permits, P: Gate + Drop> Job for Gated<Driver<G, L>, P> {
+    type Output = Driven;
 
     fn run(self, _thread: usize) -> Driven {
         let Gated {
@@ -280,11 +280,11 @@ pub fn drive<
     Z: CustomizeConnection<M::Connection, M::Error>,
     K: Clock,
     R: Wait + Send + Sync + Drop + 'static,
-    L: PoolParts + 'static,
+    L: PoolPermits + 'static,
     P: Gate + Send + Drop + 'static,
 >(
     threads: &impl Threads,
-    driver: Driver<These<M, S, Z, K, R>, L>,
+    driver: Driver<TypesOf<M, S, Z, K, R>, L>,
     gate: P,
 ) -> Result<JoinHandle<Driven>, NoThread> {
     start(threads, 0, Gated { driver, gate })

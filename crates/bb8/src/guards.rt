@@ -4,26 +4,26 @@ ghost use Rattle.std.specs.Prelude.{◌≡◌, ◌+◌, ◌<◌, ◌≤◌, ◌�
 use crate::pool::{IntoParts, Pool, PooledConnection};
 use bb8_core::internals::Key;
 use bb8_gets::Taken;
-use bb8_lock::{Gathered, Given, Parts, Shared};
+use bb8_lock::{Gathered, Permits, PoolTypes, Shared};
 use std::alloc::Global;
 use std::marker::PhantomData;
 
-/// Where a connection of a list is returned to, and its key.
+/// The pool to which a connection of a list is returned, and its key.
 #[derive(Drop)]
-struct Ticket<'a, G: Given, L: Parts> {
+struct Ticket<'a, G: PoolTypes, L: Permits> {
     shared: &'a Shared<G, L>,
     key: Key,
 }
 
 /// A list of guards of one pool. It has at most `max_size` guards, as their permits prove. Its drop
 /// drops each guard, for which it may wait for the lock.
-pub struct Guards<'a, G: Given, L: Parts> {
+pub struct Guards<'a, G: PoolTypes, L: Permits> {
     shared: &'a Shared<G, L>,
     tickets: Vec<Ticket<'a, G, L>>,
     connections: Vec<G::Connection>,
     parts: Gathered<L>,
     ghost one_each: { vec_len tickets ≡ vec_len connections },
-    ghost parts_of: { parts ≡ vec_len connections },
+    ghost permits_of: { parts ≡ vec_len connections },
     ghost within: { vec_len connections ≤ shared.now.config.max_size },
 }
 
@@ -59,7 +59,7 @@ pub trait GuardsCalls: Sized {
     fn get_mut(&mut self, index: usize) -> Option<&mut Self::Connection>;
 }
 
-impl<'a, G: Given, L: Parts> GuardsCalls for Guards<'a, G, L> {
+impl<'a, G: PoolTypes, L: Permits> GuardsCalls for Guards<'a, G, L> {
     ghost use Rattle.std.specs.Borrow.{LendsIf, sem};
     ghost use mir.Syntax.{named};
     ghost use Rattle.bb8.specs.GuardLists.{connection_of, connections_in, most_in, number_in, ticket_of, tickets_in, with_connection_at, AreOfOne, IsListOf};
@@ -111,7 +111,7 @@ impl<'a, G: Given, L: Parts> GuardsCalls for Guards<'a, G, L> {
         let Taken {
             key,
             connection,
-            part,
+            permit,
         } = taken;
         if self.tickets.push(Ticket { shared, key }).is_err() {
             return Err(PooledConnection {
@@ -119,14 +119,14 @@ impl<'a, G: Given, L: Parts> GuardsCalls for Guards<'a, G, L> {
                 taken: Taken {
                     key,
                     connection,
-                    part,
+                    permit,
                 },
                 lends: PhantomData,
             });
         }
         match self.connections.push(connection) {
             Ok(()) => {
-                self.parts.put(part, &self.shared.total);
+                self.parts.put(permit, &self.shared.total);
                 Ok(())
             }
             Err(refused) => {
@@ -135,7 +135,7 @@ impl<'a, G: Given, L: Parts> GuardsCalls for Guards<'a, G, L> {
                 let taken = Taken {
                     key,
                     connection,
-                    part,
+                    permit,
                 };
                 Err(PooledConnection {
                     shared,
@@ -164,11 +164,11 @@ impl<'a, G: Given, L: Parts> GuardsCalls for Guards<'a, G, L> {
         }
         let Ticket { shared, key } = self.tickets.remove(index);
         let connection = self.connections.remove(index);
-        let part = self.parts.take_one();
+        let permit = self.parts.take_one();
         let taken = Taken {
             key,
             connection,
-            part,
+            permit,
         };
         Some(PooledConnection {
             shared,
@@ -191,7 +191,7 @@ impl<'a, G: Given, L: Parts> GuardsCalls for Guards<'a, G, L> {
     }
 }
 
-impl<G: Given, L: Parts> Drop for Guards<'_, G, L> {
+impl<G: PoolTypes, L: Permits> Drop for Guards<'_, G, L> {
     ghost use Rattle.bb8.specs.GuardLists.{ReturnsEach};
 
     fn drop(self)
@@ -205,11 +205,11 @@ impl<G: Given, L: Parts> Drop for Guards<'_, G, L> {
         } = self;
         while let Some(connection) = connections.pop() {
             if let Some(Ticket { shared, key }) = tickets.pop() {
-                let part = parts.take_one();
+                let permit = parts.take_one();
                 let taken = Taken {
                     key,
                     connection,
-                    part,
+                    permit,
                 };
                 drop(PooledConnection {
                     shared,

@@ -4,13 +4,13 @@ ghost use Rattle.std.specs.Arc.{arc_value};
 use crate::pool::Pool;
 use bb8_core::api::RunError;
 use bb8_gets::Joining;
-use bb8_lock::{Given, Handle, OpensScope, Parts, Shared, join};
+use bb8_lock::{Handle, OpensScope, Permits, PoolTypes, Shared, join};
 use std::alloc::Global;
 use std::sync::Arc;
 
 /// A handle with what it shares with the others of its pool. It cannot be dropped, so each place
 /// that gives one up says how.
-pub(crate) struct BareHandle<G: Given, L: Parts> {
+pub(crate) struct BareHandle<G: PoolTypes, L: Permits> {
     pub shared: Arc<Shared<G, L>, Global>,
     pub handle: Handle,
 }
@@ -22,7 +22,7 @@ pub(crate) trait Joins {
     fn join(self) -> Self::Joined;
 }
 
-impl<'a, G: Given, L: Parts> Joins for &'a Pool<G, L> {
+impl<'a, G: PoolTypes, L: Permits> Joins for &'a Pool<G, L> {
     ghost use Rattle.bb8.specs.Handles.{IsHandleOf};
 
     type Joined = Result<BareHandle<G, L>, RunError<G::Error>>;

@@ -1,12 +1,12 @@
-//! A connection pool: its builder, and all of `bb8_core` that users need. What Rust's bb8 has, too,
-//! is marked "as bb8"; all else has no counterpart there.
+//! A connection pool: its builder, and all of `bb8_core` that users need. Items that Rust's bb8
+//! has, too, are marked "as bb8"; all others have no counterpart there.
 //!
 //! A program whose threads share a pool has three parts: a manager, which opens and checks
 //! connections (`ManageConnection`); a service, which says what is done before its threads run, in
 //! each, and after them (`Service`); and a `main`, which builds the pool and runs the service over
 //! it (`Builder::serve`). It needs no proof file. `./new NAME` at the top of the repository creates
-//! such a program, with its line of `crates.txt`, `NAME: bb8 bb8_blocking`. `crates/bb8_service` is
-//! one over the toolchain's `sqlite`. Its `main` has
+//! such a program, with its line of `crates.txt`. `crates/bb8_examples/src/service.rt` is one over
+//! the toolchain's `sqlite`. It runs by
 //!
 //! ```text
 //! let outcome = Builder::new()
@@ -15,7 +15,7 @@
 //!     .serve(manager, MachineClock(rt), rt, THREADS, &service);
 //! ```
 //!
-//! and each of its threads
+//! and each of its threads has
 //!
 //! ```text
 //! let mut guard = pool.get_blocking().ok()?;
@@ -27,6 +27,7 @@
 #![tactic(auto)]
 
 mod alone;
+mod blocking;
 mod builder;
 pub mod building;
 pub mod dedicated;
@@ -49,8 +50,9 @@ pub use bb8_core::api::{
     NopCustomizer, NopErrorSink, QueueStrategy, RunError, SetClock, State, Statistics,
 };
 pub use bb8_core::{api, internals, replay};
-pub use bb8_lock::{Given, Locks, Parts, PoolParts, These};
+pub use bb8_lock::{Locks, Permits, PoolPermits, PoolTypes, TypesOf};
 pub use bb8_tasks as tasks;
+pub use blocking::{Blocking, BlockingManager};
 pub use builder::Builder;
 pub use building::BuildingCalls;
 pub use driver::{Driven, DriverCalls, Gate, Turn, drive};

@@ -4,7 +4,7 @@ use std::random::RandomSource;
 use std::sync::Wait;
 use std::time::Clock as MachineTime;
 
-/// What a program asks of the runtime that it passes to its pool, under one name: it waits, tells
+/// The bounds of the runtime that a program passes to its pool, under one name: it waits, reads
 /// the time, draws random bits for `block_on`, allocates, and may be copied and sent. The runtime
 /// of `main` is one. `Builder::serve` also asks for `Threads`.
 pub trait Runtime: Wait

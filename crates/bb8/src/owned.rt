@@ -7,7 +7,8 @@ use crate::pool::{Cancel, Detach};
 use bb8_core::api::RunError;
 use bb8_gets::{GetState, Taken};
 use bb8_lock::{
-    Given, OpensScope, Part, Parts, cancel_and_leave, detach_and_leave, give_back_and_leave, leave,
+    OpensScope, Permit, Permits, PoolTypes, cancel_and_leave, detach_and_leave,
+    give_back_and_leave, leave,
 };
 use futures::Future;
 use futures::task::{Context, Poll};
@@ -20,17 +21,17 @@ use std::{fmt, mem};
 /// to the connection. bb8's `PooledConnection<'static>`.
 ///
 /// Its drop returns the connection as `PooledConnection` does, and then its handle leaves.
-pub struct OwnedConnection<G: Given, L: Parts> {
+pub struct OwnedConnection<G: PoolTypes, L: Permits> {
     pub(crate) holding: BareHandle<G, L>,
-    pub(crate) taken: Taken<G::Connection, Part<L>>,
+    pub(crate) taken: Taken<G::Connection, Permit<L>>,
 }
 
 /// The stage of a get with its own handle, before it resolves.
-pub(crate) enum OwnedStage<G: Given, L: Parts> {
+pub(crate) enum OwnedStage<G: PoolTypes, L: Permits> {
     /// The handle was refused.
     Refused(RunError<G::Error>),
     /// It has its handle.
-    Open(BareHandle<G, L>, GetState<G::Connection, G::Checking, Part<L>>),
+    Open(BareHandle<G, L>, GetState<G::Connection, G::Checking, Permit<L>>),
 }
 
 /// The future that `Pool::get_owned` returns: a get with its own handle, or the reason why it has
@@ -39,11 +40,12 @@ pub(crate) enum OwnedStage<G: Given, L: Parts> {
 /// Each poll is like one of `GetFuture`. If it is dropped before it resolves, the get is cancelled,
 /// and its handle leaves. The handle of a served get moves into the guard; after an error it
 /// leaves. bb8's get is an async function.
-pub struct GetOwnedFuture<G: Given, L: Parts> {
+pub struct GetOwnedFuture<G: PoolTypes, L: Permits> {
     pub(crate) stage: Option<OwnedStage<G, L>>,
 }
 
-/// What a handle does, and a get or a guard with its own. (A trait because of *trait-for-threads*.)
+/// The calls of a handle, and those of a get or guard that has its own. (A trait because of
+/// *trait-for-threads*.)
 pub(crate) trait OwnedCalls {
     type Get;
 
@@ -72,14 +74,14 @@ pub(crate) trait OwnedCalls {
     fn detach_owned(self, taken: Self::Taken) -> Self::Connection;
 }
 
-impl<G: Given, L: Parts> OwnedCalls for BareHandle<G, L> {
+impl<G: PoolTypes, L: Permits> OwnedCalls for BareHandle<G, L> {
     ghost use Rattle.bb8_lock.specs.Scope.{OwnCancels, OwnCancelsAndLeaves, OwnDetachesAndLeaves, OwnLeaves, OwnPolls, OwnReturnsAndLeaves};
 
-    type Get = GetState<G::Connection, G::Checking, Part<L>>;
+    type Get = GetState<G::Connection, G::Checking, Permit<L>>;
 
-    type Polled = Poll<Result<Taken<G::Connection, Part<L>>, RunError<G::Error>>>;
+    type Polled = Poll<Result<Taken<G::Connection, Permit<L>>, RunError<G::Error>>>;
 
-    type Taken = Taken<G::Connection, Part<L>>;
+    type Taken = Taken<G::Connection, Permit<L>>;
 
     type Connection = G::Connection;
 
@@ -132,12 +134,12 @@ impl<G: Given, L: Parts> OwnedCalls for BareHandle<G, L> {
 }
 
 /// The result of a poll, and the stage after it.
-pub(crate) struct OwnedStep<G: Given, L: Parts> {
+pub(crate) struct OwnedStep<G: PoolTypes, L: Permits> {
     answer: Poll<Result<OwnedConnection<G, L>, RunError<G::Error>>>,
     stage: Option<OwnedStage<G, L>>,
 }
 
-/// What the future does with its stage. (A trait because of *trait-for-threads*.)
+/// The steps of the future from stage to stage. (A trait because of *trait-for-threads*.)
 trait OwnedStages {
     type OwnedStage;
 
@@ -150,7 +152,7 @@ trait OwnedStages {
     fn cancel_stage(stage: Self::OwnedStage);
 }
 
-impl<G: Given, L: Parts> OwnedStages for GetOwnedFuture<G, L> {
+impl<G: PoolTypes, L: Permits> OwnedStages for GetOwnedFuture<G, L> {
     ghost use Rattle.bb8.specs.Owned.{CancelsOwned, OwnedPolls};
 
     type OwnedStage = Option<OwnedStage<G, L>>;
@@ -206,7 +208,7 @@ impl<G: Given, L: Parts> OwnedStages for GetOwnedFuture<G, L> {
     }
 }
 
-impl<G: Given<Runtime: Wait>, L: Parts> Cancel for GetOwnedFuture<G, L> {
+impl<G: PoolTypes<Runtime: Wait>, L: Permits> Cancel for GetOwnedFuture<G, L> {
     ghost use Rattle.bb8.specs.Owned.{CancelsOwned};
 
     fn cancel(self)
@@ -216,7 +218,7 @@ impl<G: Given<Runtime: Wait>, L: Parts> Cancel for GetOwnedFuture<G, L> {
     }
 }
 
-impl<G: Given, L: Parts> Drop for GetOwnedFuture<G, L> {
+impl<G: PoolTypes, L: Permits> Drop for GetOwnedFuture<G, L> {
     ghost use Rattle.bb8.specs.Owned.{CancelsOwned};
 
     fn drop(self)
@@ -227,7 +229,7 @@ impl<G: Given, L: Parts> Drop for GetOwnedFuture<G, L> {
     }
 }
 
-impl<G: Given<Runtime: Wait>, L: Parts> Future for GetOwnedFuture<G, L> {
+impl<G: PoolTypes<Runtime: Wait>, L: Permits> Future for GetOwnedFuture<G, L> {
     ghost use Rattle.std.specs.Prelude.{⊤};
     ghost use Rattle.futures.specs.Poll.{IfReady, OnPending};
     ghost use Rattle.futures.specs.Task.{Covers, Keeps};
@@ -260,7 +262,7 @@ impl<G: Given<Runtime: Wait>, L: Parts> Future for GetOwnedFuture<G, L> {
     }
 }
 
-impl<G: Given, L: Parts> Drop for OwnedConnection<G, L> {
+impl<G: PoolTypes, L: Permits> Drop for OwnedConnection<G, L> {
     ghost use Rattle.bb8_lock.specs.Scope.{OwnReturnsAndLeaves};
 
     fn drop(self)
@@ -271,7 +273,7 @@ impl<G: Given, L: Parts> Drop for OwnedConnection<G, L> {
     }
 }
 
-impl<G: Given<Runtime: Wait>, L: Parts> Detach for OwnedConnection<G, L> {
+impl<G: PoolTypes<Runtime: Wait>, L: Permits> Detach for OwnedConnection<G, L> {
     ghost use Rattle.bb8_lock.specs.Scope.{OwnDetachesAndLeaves};
 
     type Connection = G::Connection;
@@ -285,7 +287,7 @@ impl<G: Given<Runtime: Wait>, L: Parts> Detach for OwnedConnection<G, L> {
     }
 }
 
-impl<G: Given, L: Parts> Deref for OwnedConnection<G, L> {
+impl<G: PoolTypes, L: Permits> Deref for OwnedConnection<G, L> {
     type Target = G::Connection;
 
     ghost deref_gives = { λ guard connection. connection ≡ guard.taken.connection };
@@ -295,7 +297,7 @@ impl<G: Given, L: Parts> Deref for OwnedConnection<G, L> {
     }
 }
 
-impl<G: Given, L: Parts> DerefMut for OwnedConnection<G, L> {
+impl<G: PoolTypes, L: Permits> DerefMut for OwnedConnection<G, L> {
     ghost use Rattle.std.specs.Borrow.{Lends, sem};
     ghost use Rattle.bb8.specs.Owned.{with_connection};
     ghost use Rattle.bb8.specs.contracts.owned.OwnedConnection.{the_row};
@@ -314,7 +316,7 @@ impl<G: Given, L: Parts> DerefMut for OwnedConnection<G, L> {
     }
 }
 
-impl<G: Given, L: Parts> Debug for OwnedConnection<G, L>
+impl<G: PoolTypes, L: Permits> Debug for OwnedConnection<G, L>
 where
     G::Connection: Debug,
 {

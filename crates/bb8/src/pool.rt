@@ -4,7 +4,7 @@ ghost use Rattle.std.specs.Arc.{arc_value};
 ghost use Rattle.std.specs.Duration.{as_nanos};
 ghost use Rattle.bb8_types.specs.declared.grants.Grant.{Grant as GrantOf};
 ghost use Rattle.bb8_types.specs.Settings.{settings_of, default_settings, is_lawful};
-ghost use Rattle.bb8_lock.specs.Parts.{HasBegun};
+ghost use Rattle.bb8_lock.specs.Permits.{HasBegun};
 ghost use Rattle.bb8_lock.specs.Scope.{OwnAdds, OwnCloses, OwnRetires, OwnShows, OwnTellsClosed};
 
 use crate::Builder;
@@ -19,8 +19,8 @@ use bb8_core::api::{
 };
 use bb8_gets::{GetState, Taken};
 use bb8_lock::{
-    Given, Handle, Locks, OpensScope, Part, Parts, Shared, These, add, close, detach, give_back,
-    is_closed, retire, state, take_now, wait,
+    Handle, Locks, OpensScope, Permit, Permits, PoolTypes, Shared, TypesOf, add, close, detach,
+    give_back, is_closed, retire, state, take_now, wait,
 };
 use std::alloc::Global;
 use std::fmt;
@@ -34,7 +34,7 @@ use std::time::Duration;
 /// A handle of a pool of connections. Threads share one by reference, or each have their own
 /// (`try_clone`). It checks connections out as guards, which return them when they are dropped.
 ///
-/// As bb8, except for the type parameters. `G` stands for the manager, the error sink, the
+/// As bb8, except for the type parameters. `G` is the manager, the error sink, the
 /// customizer, the clock and the runtime that the pool was built with; `bb8::Pool` names them one
 /// by one. The permits `L` count checked-out connections in proofs, and state the pool's settings
 /// there. They take no memory at run time. Calls of the pool may wait for the lock.
@@ -42,7 +42,7 @@ use std::time::Duration;
 /// When a handle is dropped, it reads the clock and leaves under the lock. The last one closes all
 /// idle connections, which are dropped under the lock, and ends all approvals that no task has
 /// claimed.
-pub struct Pool<G: Given, L: Parts> {
+pub struct Pool<G: PoolTypes, L: Permits> {
     pub(crate) shared: Arc<Shared<G, L>, Global>,
     pub(crate) handle: Handle,
 }
@@ -53,9 +53,9 @@ pub struct Pool<G: Given, L: Parts> {
 /// under the pool's lock, for which it may wait. If the pool closes the connection, it is dropped
 /// after the lock is released. A forgotten guard keeps its connection and its permit: the pool has
 /// one slot less from then on.
-pub struct PooledConnection<'a, G: Given, L: Parts> {
+pub struct PooledConnection<'a, G: PoolTypes, L: Permits> {
     pub(crate) shared: &'a Shared<G, L>,
-    pub(crate) taken: Taken<G::Connection, Part<L>>,
+    pub(crate) taken: Taken<G::Connection, Permit<L>>,
     /// Shows the borrow checker that the guard borrows its pool (*mutable-access*).
     pub(crate) lends: PhantomData<&'a ()>,
 }
@@ -76,21 +76,21 @@ impl<
     pub fn build_unchecked<
         K: Clock,
         R: Wait + AllocGlobal + Send + Sync + Drop + 'static,
-        L: Parts,
+        L: Permits,
     >(
         self,
         manager: M,
         clock: K,
         rt: R,
         blank: Blank,
-    ) -> Result<Pool<These<M, S, Z, K, R>, L>, Memory>
+    ) -> Result<Pool<TypesOf<M, S, Z, K, R>, L>, Memory>
         requires lawful { is_lawful self.settings ≡ true }
         requires parts { (L.name ≡ blank.name) × (L.parts ≡ blank.parts) }
         requires size { blank.parts ≡ self.settings.max_size }
         requires settings { L.settings ≡ self.settings }
         ensures settings { IfOk result (λ pool. settings_in pool ≡ self.settings) }
         ensures first { IfOk result (λ pool. (grant : GrantOf) × HasBegun M.Connection
-            (λ at. K.tells clock at × (made_in pool ≡ at)) self.settings false grant) }
+            (λ at. K.reports clock at × (made_in pool ≡ at)) self.settings false grant) }
         ensures manager { IfOk result (λ pool. manager_in pool ≡ manager) }
         ensures clock { IfOk result (λ pool. clock_in pool ≡ clock) }
         ensures sink { IfOk result (λ pool. sink_in pool ≡ self.error_sink) }
@@ -111,16 +111,16 @@ impl<
 
 /// Takes a guard apart. (A trait because of *trait-for-threads*.)
 pub(crate) trait IntoParts {
-    type Parts;
+    type Permits;
 
     /// Returns the connection and its permit, with the pool that they return to.
-    fn into_parts(self) -> Self::Parts;
+    fn into_parts(self) -> Self::Permits;
 }
 
-impl<'a, G: Given, L: Parts> IntoParts for PooledConnection<'a, G, L> {
-    type Parts = (&'a Shared<G, L>, Taken<G::Connection, Part<L>>);
+impl<'a, G: PoolTypes, L: Permits> IntoParts for PooledConnection<'a, G, L> {
+    type Permits = (&'a Shared<G, L>, Taken<G::Connection, Permit<L>>);
 
-    fn into_parts(self) -> (&'a Shared<G, L>, Taken<G::Connection, Part<L>>)
+    fn into_parts(self) -> (&'a Shared<G, L>, Taken<G::Connection, Permit<L>>)
         ensures pool { result.0 ≡ self.entry.shared }
         ensures taken { result.1 ≡ self.entry.taken }
     {
@@ -162,7 +162,7 @@ pub trait Gets {
     fn dedicated_connection(self) -> Self::Dedicated;
 }
 
-impl<'a, G: Given, L: Parts> Gets for &'a Pool<G, L> {
+impl<'a, G: PoolTypes, L: Permits> Gets for &'a Pool<G, L> {
     ghost use Rattle.bb8.specs.Dedicated.{opening_of};
     ghost use Rattle.bb8.specs.Pools.{stage_of, IsOf};
     ghost use Rattle.bb8_tasks.specs.Dedicating.{fresh};
@@ -323,7 +323,7 @@ pub trait Cancel {
     fn cancel(self);
 }
 
-impl<'a, G: Given<Runtime: Wait>, L: Parts> PoolCalls for &'a Pool<G, L> {
+impl<'a, G: PoolTypes<Runtime: Wait>, L: Permits> PoolCalls for &'a Pool<G, L> {
     ghost use Rattle.bb8.specs.Blocking.{GetsAtOnce, WaitsForGet, WaitsForOwned};
     ghost use Rattle.bb8.specs.Handles.{IsClone};
     ghost use Rattle.bb8.specs.Owned.{BeginsOwned};
@@ -460,7 +460,7 @@ impl<'a, G: Given<Runtime: Wait>, L: Parts> PoolCalls for &'a Pool<G, L> {
     }
 }
 
-impl<G: Given, L: Parts> Pool<G, L> {
+impl<G: PoolTypes, L: Permits> Pool<G, L> {
     ghost use Rattle.bb8.specs.Pools.{settings_in};
 
     /// Returns the settings that the pool was built with. As bb8.
@@ -471,8 +471,8 @@ impl<G: Given, L: Parts> Pool<G, L> {
     }
 }
 
-impl<M: ManageConnection, R: Locks, L: Parts> Pool<
-    These<M, NopErrorSink, NopCustomizer, SetClock, R>,
+impl<M: ManageConnection, R: Locks, L: Permits> Pool<
+    TypesOf<M, NopErrorSink, NopCustomizer, SetClock, R>,
     L,
 > {
     /// Returns a builder with each setting at its default. As bb8. It is a call of the pools
@@ -484,7 +484,7 @@ impl<M: ManageConnection, R: Locks, L: Parts> Pool<
     }
 }
 
-impl<G: Given, L: Parts> Drop for Pool<G, L> {
+impl<G: PoolTypes, L: Permits> Drop for Pool<G, L> {
     ghost use Rattle.bb8_lock.specs.Scope.{OwnLeaves};
 
     fn drop(self)
@@ -495,14 +495,14 @@ impl<G: Given, L: Parts> Drop for Pool<G, L> {
     }
 }
 
-impl<G: Given, L: Parts> Debug for Pool<G, L> {
+impl<G: PoolTypes, L: Permits> Debug for Pool<G, L> {
     /// Prints `Pool(..)`, without its parts. bb8 prints an address.
     fn fmt<W: fmt::Write>(&self, f: &mut Formatter<W>) -> fmt::Result {
         f.write_str("Pool(..)")
     }
 }
 
-impl<G: Given, L: Parts> Drop for PooledConnection<'_, G, L> {
+impl<G: PoolTypes, L: Permits> Drop for PooledConnection<'_, G, L> {
     ghost use Rattle.bb8_lock.specs.Scope.{OwnReturns};
 
     fn drop(self)
@@ -517,7 +517,7 @@ impl<G: Given, L: Parts> Drop for PooledConnection<'_, G, L> {
     }
 }
 
-impl<G: Given<Runtime: Wait>, L: Parts> Detach for PooledConnection<'_, G, L> {
+impl<G: PoolTypes<Runtime: Wait>, L: Permits> Detach for PooledConnection<'_, G, L> {
     ghost use Rattle.bb8_lock.specs.Scope.{OwnDetaches};
     ghost use Rattle.bb8.specs.GuardLists.{connection_of};
 
@@ -536,7 +536,7 @@ impl<G: Given<Runtime: Wait>, L: Parts> Detach for PooledConnection<'_, G, L> {
     }
 }
 
-impl<G: Given, L: Parts> Deref for PooledConnection<'_, G, L> {
+impl<G: PoolTypes, L: Permits> Deref for PooledConnection<'_, G, L> {
     type Target = G::Connection;
 
     ghost deref_gives = { λ guard connection. connection ≡ guard.taken.connection };
@@ -546,7 +546,7 @@ impl<G: Given, L: Parts> Deref for PooledConnection<'_, G, L> {
     }
 }
 
-impl<G: Given, L: Parts> DerefMut for PooledConnection<'_, G, L> {
+impl<G: PoolTypes, L: Permits> DerefMut for PooledConnection<'_, G, L> {
     ghost use Rattle.std.specs.Prelude.{[]};
     ghost use Rattle.std.specs.Borrow.{Lends, sem};
     ghost use mir.Syntax.{named};
@@ -568,7 +568,7 @@ impl<G: Given, L: Parts> DerefMut for PooledConnection<'_, G, L> {
     }
 }
 
-impl<G: Given, L: Parts> Debug for PooledConnection<'_, G, L>
+impl<G: PoolTypes, L: Permits> Debug for PooledConnection<'_, G, L>
 where
     G::Connection: Debug,
 {

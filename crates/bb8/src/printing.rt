@@ -8,7 +8,7 @@ use std::fmt;
 /// An error of a named pool, as one line: the name, a colon, and the error as it displays.
 #[derive(Clone, Copy, Debug)]
 pub struct ErrorLine<'a, E> {
-    /// What the error is about.
+    /// The name of the pool or server that the error belongs to.
     pub name: &'a str,
     /// The error.
     pub error: &'a E,
@@ -25,13 +25,13 @@ impl<E: fmt::Display> fmt::Display for ErrorLine<'_, E> {
 /// Prints each error to standard error, as an `ErrorLine`. One that cannot be written is dropped.
 /// bb8 leaves the sink to the user.
 ///
-/// The name is that of the pool or of its server. Which connection attempt or check failed, the
-/// manager's error may say.
+/// The name is that of the pool or of its server. The manager's error may say which connection
+/// attempt or check failed.
 #[derive(Clone, Copy, Debug)]
 pub struct PrintingSink<R> {
     /// The runtime that prints.
     pub rt: R,
-    /// What its errors are about.
+    /// The name of the pool or server.
     pub name: &'static str,
 }
 

@@ -1,9 +1,9 @@
 //! A service: threads that share a pool for as long as they run.
 ghost use Rattle.std.specs.Prelude.{◌≡◌, ℕ, ⊤, List, Result, Ok, IfOk, IfErr, true, false};
 ghost use Rattle.bb8_types.specs.Settings.{is_lawful};
-ghost use Rattle.bb8_lock.specs.Parts.{IsBlankOf};
+ghost use Rattle.bb8_lock.specs.Permits.{IsBlankOf};
 ghost use Rattle.bb8.specs.Buildings.{IsBuildError};
-ghost use Rattle.bb8.specs.Services.{Basis, basis, basis_of, EachTold, IsOutcome};
+ghost use Rattle.bb8.specs.Services.{Basis, basis, basis_of, EachOutput, IsOutcome};
 
 use crate::building::BuildingCalls;
 use crate::driver::{Driven, Driver, Gate, drive};
@@ -13,7 +13,7 @@ use crate::{Builder, Building, Pool, pool};
 use bb8_core::api::{
     Clock, Config, CustomizeConnection, ErrorSink, ManageConnection, Memory, RunError,
 };
-use bb8_lock::{Given, Locks, PoolParts, These};
+use bb8_lock::{Locks, PoolPermits, PoolTypes, TypesOf};
 use std::alloc::Global;
 use std::marker::Brand;
 use std::sync::atomic::{AtomicBool, Ordering};
@@ -21,7 +21,7 @@ use std::sync::ledger::Blank;
 use std::sync::{Arc, Wait};
 use std::thread::{JoinHandle, Threads};
 
-/// What a program does with its pool in threads, for any permits `L`. `Builder::serve` runs it.
+/// The work of a program's threads with its pool, for any permits `L`. `Builder::serve` runs it.
 ///
 /// Its methods call the pool by `PoolCalls`; a function that takes the pool cannot be proved there
 /// (*trait-for-threads*). Each has a ghost member, a relation between its arguments and its result,
@@ -35,7 +35,7 @@ pub trait Service<
     R: Locks,
 >: Sync {
     /// The result of a thread.
-    type Told: Send + Drop;
+    type Output: Send + Drop;
 
     /// The result of the service.
     type Outcome;
@@ -48,34 +48,38 @@ pub trait Service<
 
     // Holds of a service, the `Basis` of its pool, the number of a thread, and each result that the
     // thread may have.
-    ghost tells: { Self → Basis M S Z K → ℕ → Self.Told → Type 0 } = { λ _ _ _ _. ⊤ };
+    ghost reports: { Self → Basis M S Z K → ℕ → Self.Output → Type 0 } = { λ _ _ _ _. ⊤ };
 
     // Holds of a service, the `Basis` of its pool, the threads' results in order, and each outcome
     // that it may end with.
-    ghost ends: { Self → Basis M S Z K → List Self.Told → Self.Outcome → Type 0 } = { λ _ _ _ _. ⊤ };
+    ghost ends: { Self → Basis M S Z K → List Self.Output → Self.Outcome → Type 0 } = { λ _ _ _ _. ⊤ };
 
     /// Runs before the threads start. If it returns an error, none is started, and the error is the
     /// service's result.
-    fn begin<L: PoolParts>(&self, pool: &Pool<M, S, Z, K, R, L>) -> Result<(), Self::Outcome>
+    fn begin<L: PoolPermits>(&self, pool: &Pool<M, S, Z, K, R, L>) -> Result<(), Self::Outcome>
         requires { suits self.now (basis_of pool.now) }
         ensures { begins self.now (basis_of pool.now) result };
 
     /// Runs in the thread of this number, from 0 on, once the service has begun.
-    fn run<L: PoolParts>(&self, pool: &Pool<M, S, Z, K, R, L>, thread: usize) -> Self::Told
+    fn run<L: PoolPermits>(&self, pool: &Pool<M, S, Z, K, R, L>, thread: usize) -> Self::Output
         requires suits { suits self.now (basis_of pool.now) }
         requires begun { begins self.now (basis_of pool.now) (Ok tt) }
-        ensures { tells self.now (basis_of pool.now) thread result };
+        ensures { reports self.now (basis_of pool.now) thread result };
 
     /// Runs once all threads have ended, with their results in order. Then the pool is dropped.
-    fn end<L: PoolParts>(&self, pool: &Pool<M, S, Z, K, R, L>, told: &[Self::Told]) -> Self::Outcome
+    fn end<L: PoolPermits>(
+        &self,
+        pool: &Pool<M, S, Z, K, R, L>,
+        results: &[Self::Output],
+    ) -> Self::Outcome
         requires suits { suits self.now (basis_of pool.now) }
         requires begun { begins self.now (basis_of pool.now) (Ok tt) }
-        ensures { ends self.now (basis_of pool.now) told.now result };
+        ensures { ends self.now (basis_of pool.now) results.now result };
 }
 
 /// A service on its pool.
 #[derive(Drop)]
-struct OnPool<'a, G: Given, L: PoolParts, V> {
+struct OnPool<'a, G: PoolTypes, L: PoolPermits, V> {
     pool: &'a pool::Pool<G, L>,
     service: &'a V,
 }
@@ -86,17 +90,17 @@ impl<
     Z: CustomizeConnection<M::Connection, M::Error>,
     K: Clock,
     R: Locks,
-    L: PoolParts,
+    L: PoolPermits,
     V: Service<M, S, Z, K, R>,
-> Job for &OnPool<'_, These<M, S, Z, K, R>, L, V> {
-    type Told = V::Told;
+> Job for &OnPool<'_, TypesOf<M, S, Z, K, R>, L, V> {
+    type Output = V::Output;
 
     ghost is_ready = { λ job. V.suits job.now.service.now (basis_of job.now.pool.now)
         × V.begins job.now.service.now (basis_of job.now.pool.now) (Ok tt) };
 
-    ghost tells = { λ job thread told. V.tells job.now.service.now (basis_of job.now.pool.now) thread told };
+    ghost reports = { λ job thread results. V.reports job.now.service.now (basis_of job.now.pool.now) thread results };
 
-    fn run(self, thread: usize) -> V::Told {
+    fn run(self, thread: usize) -> V::Output {
         self.service.run(self.pool, thread)
     }
 }
@@ -120,7 +124,7 @@ fn built<
     Z: CustomizeConnection<M::Connection, M::Error>,
     K: Clock,
     R: Wait + AllocGlobal + Copy + Send + Sync + Drop + 'static,
-    L: PoolParts,
+    L: PoolPermits,
 >(
     builder: Builder<M, S, Z>,
     manager: M,
@@ -145,20 +149,20 @@ fn run_service<
     Z: CustomizeConnection<M::Connection, M::Error>,
     K: Clock,
     R: Threads + Wait + AllocGlobal + Copy + Send + Sync + Drop + 'static,
-    L: PoolParts,
+    L: PoolPermits,
     V: Service<M, S, Z, K, R>,
 >(rt: &R, pool: &Pool<M, S, Z, K, R, L>, threads: usize, service: &V) -> Result<V::Outcome, Memory>
     requires suits { V.suits service.now (basis_of pool.now) }
     ensures outcome { IfOk result (IsOutcome
-        (V.begins service.now) (V.tells service.now) (V.ends service.now)
+        (V.begins service.now) (V.reports service.now) (V.ends service.now)
         (basis_of pool.now) threads) }
 {
     if let Err(outcome) = service.begin(pool) {
         return Ok(outcome);
     }
     let job = OnPool { pool, service };
-    let told = in_threads(rt, threads, &job)?;
-    Ok(service.end(pool, &told))
+    let results = in_threads(rt, threads, &job)?;
+    Ok(service.end(pool, &results))
 }
 
 /// Starts a driver of the pool in its own thread, which makes turns until the flag is set.
@@ -168,7 +172,7 @@ fn drive_while<
     Z: CustomizeConnection<M::Connection, M::Error>,
     K: Clock,
     R: Threads + Wait + AllocGlobal + Copy + Send + Sync + Drop + 'static,
-    L: PoolParts + 'static,
+    L: PoolPermits + 'static,
 >(
     pool: &Pool<M, S, Z, K, R, L>,
     rt: R,
@@ -185,7 +189,7 @@ fn serve_with<
     Z: CustomizeConnection<M::Connection, M::Error>,
     K: Clock,
     R: Threads + Wait + AllocGlobal + Copy + Send + Sync + Drop + 'static,
-    L: PoolParts + 'static,
+    L: PoolPermits + 'static,
     V: Service<M, S, Z, K, R>,
 >(
     builder: Builder<M, S, Z>,
@@ -200,7 +204,7 @@ fn serve_with<
     requires parts { IsBlankOf blank builder.settings L.name L.parts L.settings }
     requires suits { V.suits service.now (basis builder manager clock) }
     ensures outcome { IfOk result (IsOutcome
-        (V.begins service.now) (V.tells service.now) (V.ends service.now)
+        (V.begins service.now) (V.reports service.now) (V.ends service.now)
         (basis builder manager clock) threads) }
     ensures failed { IfErr result (IsBuildError
         (M.connect_answers manager) (Z.acquire_answers builder.connection_customizer)) }
@@ -246,7 +250,7 @@ impl<
         requires lawful { is_lawful self.settings ≡ true }
         requires suits { V.suits service.now (basis self manager clock) }
         ensures outcome { IfOk result (IsOutcome
-            (V.begins service.now) (V.tells service.now) (V.ends service.now)
+            (V.begins service.now) (V.reports service.now) (V.ends service.now)
             (basis self manager clock) threads) }
         ensures failed { IfErr result (IsBuildError
             (M.connect_answers manager) (Z.acquire_answers self.connection_customizer)) }

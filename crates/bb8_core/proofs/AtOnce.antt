@@ -1,10 +1,10 @@
 -- A begin and a try in one step.
-use Rattle.bb8_core.proofs.Words.{◌≡◌, ℕ, ◌+◌, ◌<◌, max, Bool, false, cond, Option, Some, None, refl, sym, ap, ◌∙◌, arith, subst, get, Grant, Guarded, Active, Getting, Counters, Begin, Try, Counts, Begun, Served, Taken, due, one, ltb, Held, Holding, first_of, gets_stand, is_trying, counts_held, StateView, IsFitting, RecordsView, GetsView, eqb_self, get_inserted, end_of_numbers, same_gets, true, entered_in, is_checked, inl, inr}
+use Rattle.bb8_core.proofs.Words.{◌≡◌, HasLedger, ℕ, ◌+◌, ◌<◌, max, Bool, false, cond, Option, Some, None, refl, sym, ap, ◌∙◌, arith, subst, get, Grant, Guarded, Active, Getting, Counters, Begin, Try, Counts, Begun, Served, Taken, due, one, ltb, Held, Holding, first_of, gets_stand, is_trying, counts_held, StateView, IsFitting, RecordsView, GetsView, eqb_self, get_inserted, end_of_numbers, same_gets, true, entered_in, is_checked, inl, inr}
 use Rattle.bb8_tables.specs.Machine as machine
 use Rattle.bb8_core.specs.Decided as decided
 use Rattle.bb8_core.specs.StepAnswers.{NotAtOnce}
 use Rattle.bb8_core.proofs.Runs.{shown_try}
-use Rattle.bb8_core.proofs.Steps.{IsStep, Grants, served, meets_begun, meets_served, meets_taken, meets_waits}
+use Rattle.bb8_core.proofs.Steps.{IsStep, Grants, led, at_view, served, meets_begun, meets_served, meets_taken, meets_waits}
 use Rattle.bb8_ledger.specs.Answers as answers
 
 -- a get that has begun
@@ -15,11 +15,11 @@ fresh = record { place = Active; first_wait = None }
 abbrev pub never : Option ℕ
 never = None
 
--- room was made for one get more, which changes no begin
+-- memory was reserved for one more get, which changes no begin
 roomy : (s : GetsView) → machine.after_begin (record s { peak = max s.peak (s.alive + 1) }) ≡ machine.after_begin s
 roomy s = same_gets _ _ refl refl refl refl (omega arith)
 
--- a get that was born where it stands now was begun in the state between
+-- a get that was born in its present state was begun in the state between
 pub begun_at : (s : GetsView) {room gs : GetsView} (f : ℕ → GetsView → GetsView) → room ≡ record s { peak = max s.peak (s.alive + 1) }
     → gs ≡ f room.next (machine.after_begin room) → gs ≡ f s.next (machine.after_begin s)
 begun_at s f room_is gs_is = gs_is ∙ ap (λ (x : GetsView). f x.next (machine.after_begin x)) room_is ∙ ap (f s.next) (roomy s)
@@ -46,6 +46,10 @@ module _ {C : Type 0} where
   pub meets_begun_between : {s : StateView C} (at : ℕ) {now n : ℕ} → n ≡ s.gets.next → IsFitting s Begin → now ≡ max s.latest at
       → s.gets.next < end_of_numbers → IsStep s at Begin (Begun n) (between s now)
   meets_begun_between at n_is fit now_is few = meets_begun now_is fit few refl refl n_is
+
+  -- so the state between has a ledger
+  pub ledger_between : {s : StateView C} {at now n : ℕ} → HasLedger s → IsStep s at Begin (Begun n) (between s now) → HasLedger (between s now)
+  ledger_between {s} {at} {now} {n} h begins = led {s = s} (between s now) at Begin (Begun n) (at_view refl h begins)
 
   -- what is done to the fields, from the state between on
   pub meets_served_between : (s : StateView C) {at now n k : ℕ} {grant : Grant} {rs : RecordsView C} {gs : GetsView}

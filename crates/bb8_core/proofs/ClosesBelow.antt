@@ -1,4 +1,4 @@
--- Which connections are closed when they are opened or come back, by their numbers.
+-- Which connections are closed when they are opened or returned, by their numbers.
 use Rattle.bb8_core.proofs.Words.{◌≡◌, ◌≢◌, ◌<◌, ◌≤◌, ℕ, Bool, true, false, ◌||◌, sym, ap, ◌∙◌, arith, eqb, ltb, eq-eqb, ne_test}
 use Rattle.std.proofs.Common.{lt-ltb, le-ltb}
 use Rattle.bb8_types.specs.Bounds.{end_of_numbers}

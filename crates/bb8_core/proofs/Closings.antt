@@ -1,5 +1,5 @@
 -- The connections that a reap or the last leave closes, one by one.
-use Rattle.bb8_core.proofs.Words.{◌≡◌, ◌≢◌, ℕ, suc, ◌+◌, ◌<◌, max, Bool, true, false, cond, eqb, List, [], ◌∷◌, ◌++◌, drop, slice_get, Option, option_and_then, Some, None, refl, sym, ap, ◌∙◌, arith, subst, FinMap, get, remove, Grant, Idle, Standing, Numbered, at_number, update, numbers, in_order, tally, one, after_end, stands, is_idle, idles_out, lives_out, Told, Reaps, after_reap, after_reaped, AreReaped, AreFirst, RecordsView, Ledger, Start, start, position, latest, records, peak, idle_at, outlived, reaped_at, outlived_at, idled_at, retiring, retired_at, Settings, StateView, HasLedger, shown_records, Before, same_or_not, at-below, get_removed, and_right, standing_is, idle_is, lives_idle, idles_idle, entered_before, ended_before, inl, inr}
+use Rattle.bb8_core.proofs.Words.{◌≡◌, ◌≢◌, ℕ, suc, ◌+◌, ◌<◌, max, Bool, true, false, cond, eqb, List, [], ◌∷◌, ◌++◌, drop, slice_get, Option, option_and_then, Some, None, refl, sym, ap, ◌∙◌, arith, subst, FinMap, get, remove, Grant, Idle, Standing, Numbered, at_number, update, numbers, in_order, tally, one, after_end, stands, is_idle, idles_out, lives_out, ReapCounts, Reaps, after_reap, after_reaped, AreReaped, AreFirst, RecordsView, Ledger, Start, start, position, latest, records, peak, idle_at, outlived, reaped_at, outlived_at, idled_at, retiring, retired_at, Settings, StateView, HasLedger, shown_records, Before, same_or_not, at-below, get_removed, and_right, standing_is, idle_is, lives_idle, idles_idle, entered_before, ended_before, inl, inr}
 use Rattle.std.specs.Ordering.{nat_cmp}
 use Rattle.circular_buffer.specs.Buffer.{Buffer}
 use Rattle.bb8_tables.specs.declared.closed.Closed.{Closed}
@@ -119,26 +119,26 @@ module _ {C : Type 0} where
       go (Some r) = refl
 
   -- what the code closed comes as often as in the ledger's list
-  reap_count : (l : Ledger C) (at : ℕ) (js ks : List ℕ) (told : Told)
-      → Reaps (start l).config (max (latest l) at) (shown l).records js ks (both_ended js ks (shown l).records) told
+  reap_count : (l : Ledger C) (at : ℕ) (js ks : List ℕ) (outcome : ReapCounts)
+      → Reaps (start l).config (max (latest l) at) (shown l).records js ks (both_ended js ks (shown l).records) outcome
       → (k : ℕ) → tally (eqb k) (js ++ ks) ≡ tally (eqb k) (reaped_at l at)
-  reap_count l at js ks told r k =
-      let e : Ended_at l at (position l) js ks = ended_at l at (position l) js ks told (entered_before l) refl r in
+  reap_count l at js ks outcome r k =
+      let e : Ended_at l at (position l) js ks = ended_at l at (position l) js ks outcome (entered_before l) refl r in
       let aged : tally (eqb k) js ≡ tally (eqb k) (outlived_at l at) = aged_count (start l) (max (latest l) at) (position l) (peak l) (records l) js r.aged r.none_aged k in
       omega (arith, ap (λ (xs : List ℕ). tally (eqb k) xs) e.idle, tally_both (eqb k) js ks, tally_both (eqb k) (outlived_at l at) (idled_at l at))
 
   -- and so for a retire
-  retire_count : (l : Ledger C) (at : ℕ) (js ks : List ℕ) (told : Told)
-      → Reaps (retiring_by (start l).config) (max (latest l) at) (shown l).records js ks (both_ended js ks (shown l).records) told
+  retire_count : (l : Ledger C) (at : ℕ) (js ks : List ℕ) (outcome : ReapCounts)
+      → Reaps (retiring_by (start l).config) (max (latest l) at) (shown l).records js ks (both_ended js ks (shown l).records) outcome
       → (k : ℕ) → tally (eqb k) (js ++ ks) ≡ tally (eqb k) (retired_at l at)
-  retire_count l at js ks told r k =
-      let e : Retired_at l at (position l) js ks = retired_ends l at (position l) js ks told (entered_before l) refl r in
+  retire_count l at js ks outcome r k =
+      let e : Retired_at l at (position l) js ks = retired_ends l at (position l) js ks outcome (entered_before l) refl r in
       let aged : tally (eqb k) js ≡ tally (eqb k) (old_ones l at) = aged_count (retiring (start l)) (max (latest l) at) (position l) (peak l) (records l) js r.aged r.none_aged k in
       omega (arith, ap (λ (xs : List ℕ). tally (eqb k) xs) e.idle, tally_both (eqb k) js ks, tally_both (eqb k) (old_ones l at) (other_ones l at))
 
   -- what ends by some settings is offered
-  ended_offers : (s : StateView C) (config : Settings) {now : ℕ} {js ks : List ℕ} {mid : RecordsView C} {told : Told} (list : Buffer (Closed C)) {offered : Buffer (Closed C)}
-      → Reaps config now s.records js ks mid told → offered ≡ offered_all (closed_of (js ++ ks) s.records.places) list → Offers s (js ++ ks) list offered
+  ended_offers : (s : StateView C) (config : Settings) {now : ℕ} {js ks : List ℕ} {mid : RecordsView C} {outcome : ReapCounts} (list : Buffer (Closed C)) {offered : Buffer (Closed C)}
+      → Reaps config now s.records js ks mid outcome → offered ≡ offered_all (closed_of (js ++ ks) s.records.places) list → Offers s (js ++ ks) list offered
   ended_offers s config {now} {js} {ks} {mid} list r listed = (closed_of (js ++ ks) s.records.places, are_closed s (js ++ ks) s.records.places each (λ k q h. h), listed)
     where
       each : AreIdle (js ++ ks) s.records.places
@@ -146,31 +146,31 @@ module _ {C : Type 0} where
           (reaped_idle (lives_out config now) refl (λ x h. lives_idle config now (Some x) h) js s.records r.aged)
           (reaped_idle (idles_out config now) refl (λ x h. idles_idle config now (Some x) h) ks (after_reap js s.records) (first_are (idles_out config now) ks (after_reap js s.records) r.first))
 
-  pub reap_offers : {s t : StateView C} (at : ℕ) {now : ℕ} {js ks : List ℕ} {mid : RecordsView C} {told : Told} (grant : Grant) (list : Buffer (Closed C)) {offered : Buffer (Closed C)} → s ≡ t
-      → now ≡ max s.latest at → Reaps s.config now s.records js ks mid told → offered ≡ offered_all (closed_of (js ++ ks) s.records.places) list
-      → OffersReaped t at (reaping.Reaped told.closed told.by_idle told.by_life grant) list offered
-  reap_offers {s} {t} at {now} {js} {ks} {mid} {told} grant list {offered} is now_is r listed =
-      subst (λ (x : StateView C). OffersReaped x at (reaping.Reaped told.closed told.by_idle told.by_life grant) list offered) is (
+  pub reap_offers : {s t : StateView C} (at : ℕ) {now : ℕ} {js ks : List ℕ} {mid : RecordsView C} {outcome : ReapCounts} (grant : Grant) (list : Buffer (Closed C)) {offered : Buffer (Closed C)} → s ≡ t
+      → now ≡ max s.latest at → Reaps s.config now s.records js ks mid outcome → offered ≡ offered_all (closed_of (js ++ ks) s.records.places) list
+      → OffersReaped t at (reaping.Reaped outcome.closed outcome.by_idle outcome.by_life grant) list offered
+  reap_offers {s} {t} at {now} {js} {ks} {mid} {outcome} grant list {offered} is now_is r listed =
+      subst (λ (x : StateView C). OffersReaped x at (reaping.Reaped outcome.closed outcome.by_idle outcome.by_life grant) list offered) is (
         js ++ ks,
         ended_offers s s.config list r listed,
-        λ l legal means k. subst (λ (x : StateView C). now ≡ max x.latest at → Reaps x.config now x.records js ks mid told → tally (eqb k) (js ++ ks) ≡ tally (eqb k) (reaped_at l at)) means
-            (λ n q. reap_count l at js ks told
-            (subst (λ (m : ℕ). Reaps (start l).config m (shown l).records js ks (both_ended js ks (shown l).records) told) n
-            (subst (λ (x : RecordsView C). Reaps (start l).config now (shown l).records js ks x told) q.state q)) k) now_is r,
+        λ l legal means k. subst (λ (x : StateView C). now ≡ max x.latest at → Reaps x.config now x.records js ks mid outcome → tally (eqb k) (js ++ ks) ≡ tally (eqb k) (reaped_at l at)) means
+            (λ n q. reap_count l at js ks outcome
+            (subst (λ (m : ℕ). Reaps (start l).config m (shown l).records js ks (both_ended js ks (shown l).records) outcome) n
+            (subst (λ (x : RecordsView C). Reaps (start l).config now (shown l).records js ks x outcome) q.state q)) k) now_is r,
       )
 
-  pub retire_offers : {s t : StateView C} (at : ℕ) {now : ℕ} {js ks : List ℕ} {mid : RecordsView C} {told : Told} (grant : Grant) (list : Buffer (Closed C)) {offered : Buffer (Closed C)} → s ≡ t
-      → now ≡ max s.latest at → Reaps (retiring_by s.config) now s.records js ks mid told → offered ≡ offered_all (closed_of (js ++ ks) s.records.places) list
-      → OffersRetired t at (reaping.Reaped told.closed 0 0 grant) list offered
-  retire_offers {s} {t} at {now} {js} {ks} {mid} {told} grant list {offered} is now_is r listed =
-      subst (λ (x : StateView C). OffersRetired x at (reaping.Reaped told.closed 0 0 grant) list offered) is (
+  pub retire_offers : {s t : StateView C} (at : ℕ) {now : ℕ} {js ks : List ℕ} {mid : RecordsView C} {outcome : ReapCounts} (grant : Grant) (list : Buffer (Closed C)) {offered : Buffer (Closed C)} → s ≡ t
+      → now ≡ max s.latest at → Reaps (retiring_by s.config) now s.records js ks mid outcome → offered ≡ offered_all (closed_of (js ++ ks) s.records.places) list
+      → OffersRetired t at (reaping.Reaped outcome.closed 0 0 grant) list offered
+  retire_offers {s} {t} at {now} {js} {ks} {mid} {outcome} grant list {offered} is now_is r listed =
+      subst (λ (x : StateView C). OffersRetired x at (reaping.Reaped outcome.closed 0 0 grant) list offered) is (
         js ++ ks,
         ended_offers s (retiring_by s.config) list r listed,
-        λ l legal means k. subst (λ (x : StateView C). now ≡ max x.latest at → Reaps (retiring_by x.config) now x.records js ks mid told
+        λ l legal means k. subst (λ (x : StateView C). now ≡ max x.latest at → Reaps (retiring_by x.config) now x.records js ks mid outcome
             → tally (eqb k) (js ++ ks) ≡ tally (eqb k) (retired_at l at)) means
-            (λ n q. retire_count l at js ks told
-            (subst (λ (m : ℕ). Reaps (retiring_by (start l).config) m (shown l).records js ks (both_ended js ks (shown l).records) told) n
-            (subst (λ (x : RecordsView C). Reaps (retiring_by (start l).config) now (shown l).records js ks x told) q.state q)) k) now_is r,
+            (λ n q. retire_count l at js ks outcome
+            (subst (λ (m : ℕ). Reaps (retiring_by (start l).config) m (shown l).records js ks (both_ended js ks (shown l).records) outcome) n
+            (subst (λ (x : RecordsView C). Reaps (retiring_by (start l).config) now (shown l).records js ks x outcome) q.state q)) k) now_is r,
       )
 
   -- where no handle is alive none is offered

@@ -1,8 +1,8 @@
 -- What the condition of a step says of what is shown.
-use Rattle.bb8_core.proofs.Words.{◌≡◌, ℕ, length, ◌≤◌, Bool, true, false, Option, Some, None, is_some, refl, sym, ap, ◌∙◌, subst, ◌+◌, ◌<◌, max, arith, ltb-true, get, Place, Unclaimed, Claimed, Idle, Held, Guarded, Standing, Getting, CheckedOk, GiveUp, Leave, Reason, Cancelled, Act, Answer, Ledger, agree, ◌&&◌, conns, approved, alive, get_of, start, latest, handles, records, gets, record_of, holds, stands, gets_stand, is_unnotified, is_claimed, is_guarded, is_held_by, is_out, is_trying, GetPlace, Active, Holding, fits, IsLegal, StateView, shown_beside, HasLedger, IsFitting, Represents, standing_is, claimed_is, guarded_out, and_right, all_held, alive_get, alive_is, out_counted, claimed_counted, Fits, all_fit, due_few, Numbered, end_of_numbers, due, Settings, none_lent, RecordsView, NoneAfter, ltb, next, option_and_then}
+use Rattle.bb8_core.proofs.Words.{◌≡◌, ℕ, length, ◌≤◌, Bool, true, false, Option, Some, None, is_some, refl, sym, ap, ◌∙◌, subst, ◌+◌, ◌<◌, max, arith, ltb-true, get, Place, Unclaimed, Claimed, Idle, Held, Guarded, Standing, Getting, CheckedOk, GiveUp, Leave, Reason, Cancelled, Act, Answer, Ledger, agree, ◌&&◌, conns, approved, alive, get_of, start, latest, handles, records, gets, record_of, holds, stands, gets_stand, is_unnotified, is_claimed, is_guarded, is_held_by, is_out, is_conn, is_trying, GetPlace, Active, Holding, fits, IsLegal, StateView, shown_beside, HasLedger, IsFitting, Represents, standing_is, claimed_is, guarded_out, and_right, all_held, alive_get, alive_is, conn_counted, conn_from, claimed_counted, Fits, all_fit, due_few, Numbered, end_of_numbers, due, Settings, no_accesses, RecordsView, NoneAfter, ltb, next, option_and_then}
 use Rattle.std.proofs.Common.{lt-ltb}
 use Rattle.std.proofs.lemmas.Bool.{ltb-false}
-use Rattle.bb8_core.specs.StateView.{IsAsBefore, Meets, TellsFitting}
+use Rattle.bb8_core.specs.StateView.{IsAsBefore, Meets, ReportsFitting}
 use Rattle.bb8_types.specs.Places.{held_in}
 use Rattle.bb8_types.specs.declared.standing.GetPlace.TheVariants.{Waiting}
 use Rattle.bb8_ledger.specs.Ledger.{idle}
@@ -31,7 +31,7 @@ giving_none (Some x) = each x.place
     each (Waiting notified) = refl
     each (Holding k) = refl
 
--- a get that was found to try stands
+-- a get that was found to try is alive
 pub trying_stands : {o p : Option Getting} {b : Bool} → o ≡ p → b ≡ gets_stand is_trying o → b ≡ true → (st : Getting) × (p ≡ Some st)
 trying_stands {o} get_is b_is on = let st = each o (sym b_is ∙ on) in (st.0, sym get_is ∙ st.1)
   where
@@ -45,28 +45,28 @@ pub trying_off : {o p : Option Getting} {b n : Bool} → o ≡ p → b ≡ gets_
 trying_off get_is b_is on n_is off = let st = trying_stands get_is b_is on in (st.0, st.1, ap (gets_stand is_unnotified) (sym st.1 ∙ sym get_is) ∙ sym n_is ∙ off)
 
 module _ {C : Type 0} where
-  -- what a ledger shows, where nothing was lent
+  -- what a ledger shows, with no access counted
   abbrev pub shown : Ledger C → StateView C
-  shown l = shown_beside none_lent l
+  shown l = shown_beside no_accesses l
 
-  -- a state, whatever was lent
+  -- a state, whatever was counted
   abbrev pub unexamined : StateView C → StateView C
-  unexamined s = record s { lent = none_lent }
+  unexamined s = record s { reads = no_accesses }
 
-  -- what was lent tells nothing of the ledger
+  -- the count of accesses says nothing of the ledger
   pub bare : {s : StateView C} (l : Ledger C) → Represents l s → shown l ≡ unexamined s
   bare l means = ap unexamined means
 
   pub beside : {s : StateView C} (l : Ledger C) → shown l ≡ unexamined s → Represents l s
-  beside {s} l is = ap (λ (t : StateView C). record t { lent = s.lent }) is
+  beside {s} l is = ap (λ (t : StateView C). record t { reads = s.reads }) is
 
   -- the fields are what is shown
   pub as_shown : {s t : StateView C} (l : Ledger C) → s ≡ t → Represents l s → Represents l t
   as_shown l is means = subst (λ (x : StateView C). Represents l x) is means
 
-  -- so is a state that is as before, but for what was lent
+  -- so is a state that is as before, except for the count of accesses
   pub still_shown : {s t : StateView C} (l : Ledger C) → IsAsBefore s t → Represents l s → Represents l t
-  still_shown {s} {t} l same means = ap (λ (x : StateView C). record x { lent = t.lent }) means ∙ sym same
+  still_shown {s} {t} l same means = ap (λ (x : StateView C). record x { reads = t.reads }) means ∙ sym same
 
   -- and a step from there is one from the former state
   pub meets_still : {s t : StateView C} (new : StateView C) (at : ℕ) (e : Act C) (a : Answer) → IsAsBefore s t → Meets t at e a new → Meets s at e a new
@@ -125,7 +125,7 @@ module _ {C : Type 0} where
       held_out (Held h) e = refl
       held_out Guarded e = refl
 
-  -- ---- a record that was found to stand at such a place, or not
+  -- ---- a record that was found in such a state, or not
 
   -- an event that asks for it fits, or it does not
   pub fits_at : (s : StateView C) (test : Place C → Bool) (k : ℕ) → stands test (get s.records.places k) ≡ true → (l : Ledger C) → IsLegal l → Represents l s → stands test (record_of l k) ≡ true
@@ -138,11 +138,14 @@ module _ {C : Type 0} where
   pub guarded_record : (s : StateView C) (k : ℕ) → stands is_guarded (get s.records.places k) ≡ true → (st : Standing C) × (get s.records.places k ≡ Some st) × (is_out st.place ≡ true)
   guarded_record s k on = let st = standing_is is_guarded (get s.records.places k) on in (st.0, st.1, guarded_out st.0.place st.2)
 
-  -- a connection that is out is one
-  out_some : (k : ℕ) (s : StateView C) → HasLedger s → (st : Standing C) × (get s.records.places k ≡ Some st) × (is_out st.place ≡ true) → 1 ≤ s.records.conns
-  out_some k s h st =
-      let some : 1 ≤ conns h.0 = out_counted h.0 k st.0 (shown_record h.0 s h.2 k ∙ st.1) st.2 in
+  -- where there is a connection, there is one
+  conn_some : (k : ℕ) (s : StateView C) → HasLedger s → (st : Standing C) × (get s.records.places k ≡ Some st) × (is_conn st.place ≡ true) → 1 ≤ s.records.conns
+  conn_some k s h st =
+      let some : 1 ≤ conns h.0 = conn_counted h.0 k st.0 (shown_record h.0 s h.2 k ∙ st.1) st.2 in
       subst (λ (t : StateView C). 1 ≤ t.records.conns) h.2 some
+
+  out_some : (k : ℕ) (s : StateView C) → HasLedger s → (st : Standing C) × (get s.records.places k ≡ Some st) × (is_out st.place ≡ true) → 1 ≤ s.records.conns
+  out_some k s h st = conn_some k s h (st.0, st.1, conn_from false st.0.place st.2)
 
   -- its number is one that was given
   pub number_few : {P : Standing C → Type 0} (k : ℕ) (s : StateView C) → HasLedger s → (st : Standing C) × (get s.records.places k ≡ Some st) × P st
@@ -167,6 +170,10 @@ module _ {C : Type 0} where
       → s.records.next ≤ end_of_numbers → s.counts.broken + s.counts.retired + s.counts.max_lifetime + s.counts.detached < end_of_numbers
   closed_few k s h st few = omega (arith, out_some k s h st, (shown_fits s h).closed_few)
 
+  pub evicted_few : (k : ℕ) (s : StateView C) → HasLedger s → (st : Standing C) × (get s.records.places k ≡ Some st) × (is_conn st.place ≡ true)
+      → s.records.next ≤ end_of_numbers → s.counts.detached < end_of_numbers
+  evicted_few k s h st few = omega (arith, conn_some k s h st, (shown_fits s h).closed_few)
+
   -- and as invalid
   pub invalid_few : (k : ℕ) (s : StateView C) → HasLedger s → (st : Standing C) × (get s.records.places k ≡ Some st) × (is_out st.place ≡ true)
       → s.records.next ≤ end_of_numbers → s.counts.invalid < end_of_numbers
@@ -189,11 +196,11 @@ module _ {C : Type 0} where
       positive : (n : ℕ) → (n ≡ 0 → ⊥) → 0 < n
       positive n some = omega (arith, some)
 
-  -- a get that is given up stands, whatever the reason
+  -- a get that is given up is alive, whatever the reason
   pub giving_is : (l : Ledger C) (g : ℕ) (held : Option C) → fits l (GiveUp g Cancelled held false) ≡ true → (st : Getting) × (get_of l g ≡ Some st)
   giving_is l g held f = alive_get (get_of l g) (and_right (is_some (get_of l g)) _ f).0
 
-  -- a get that stands has not been counted as ended, so it may be
+  -- a get that is alive has not been counted as ended, so it may be
   pub ended_few : (s : StateView C) (g : ℕ) → HasLedger s → (st : Getting) × (get s.gets.places g ≡ Some st) → s.gets.next ≤ end_of_numbers
       → s.counts.direct + s.counts.waited + s.counts.timed_out + s.counts.cancelled < end_of_numbers
   ended_few s g h st few =
@@ -206,7 +213,7 @@ module _ {C : Type 0} where
   pub fits_held : (s : StateView C) (g k : ℕ) → holds (get s.gets.places g) ≡ Some k → IsFitting s (CheckedOk g)
   fits_held s g k held l legal means = ap is_some (ap (λ (x : Option Getting). holds x) (shown_get l s means g) ∙ held)
 
-  pub unfit_held : (s : StateView C) (g : ℕ) → holds (get s.gets.places g) ≡ None → TellsFitting s (CheckedOk g) false
+  pub unfit_held : (s : StateView C) (g : ℕ) → holds (get s.gets.places g) ≡ None → ReportsFitting s (CheckedOk g) false
   unfit_held s g none l legal means = sym (ap is_some (ap (λ (x : Option Getting). holds x) (shown_get l s means g) ∙ none))
 
   pub held_out : (s : StateView C) (g k : ℕ) → HasLedger s → holds (get s.gets.places g) ≡ Some k → (st : Standing C) × (get s.records.places k ≡ Some st) × (is_out st.place ≡ true)
@@ -218,7 +225,7 @@ module _ {C : Type 0} where
   pub fits_give_back : (s : StateView C) (g k : ℕ) (why : Reason) (c : C) (broken : Bool) → holds (get s.gets.places g) ≡ Some k → IsFitting s (GiveUp g why (Some c) broken)
   fits_give_back s g k why c broken held l legal means = handing_in (get_of l g) k (ap (λ (x : Option Getting). holds x) (shown_get l s means g) ∙ held)
 
-  pub unfit_give_back : (s : StateView C) (g : ℕ) (why : Reason) (c : C) (broken : Bool) → holds (get s.gets.places g) ≡ None → TellsFitting s (GiveUp g why (Some c) broken) false
+  pub unfit_give_back : (s : StateView C) (g : ℕ) (why : Reason) (c : C) (broken : Bool) → holds (get s.gets.places g) ≡ None → ReportsFitting s (GiveUp g why (Some c) broken) false
   unfit_give_back s g why c broken none l legal means = sym (handing_none (get_of l g) (ap (λ (x : Option Getting). holds x) (shown_get l s means g) ∙ none))
 
   -- and it is out with this get
@@ -231,5 +238,5 @@ module _ {C : Type 0} where
   pub fits_give_up : (s : StateView C) (g : ℕ) (why : Reason) (broken : Bool) → gets_stand is_trying (get s.gets.places g) ≡ true → IsFitting s (GiveUp g why None broken)
   fits_give_up s g why broken on l legal means = giving_none (get_of l g) ∙ ap (gets_stand is_trying) (shown_get l s means g) ∙ on
 
-  pub unfit_give_up : (s : StateView C) (g : ℕ) (why : Reason) (broken : Bool) → gets_stand is_trying (get s.gets.places g) ≡ false → TellsFitting s (GiveUp g why None broken) false
+  pub unfit_give_up : (s : StateView C) (g : ℕ) (why : Reason) (broken : Bool) → gets_stand is_trying (get s.gets.places g) ≡ false → ReportsFitting s (GiveUp g why None broken) false
   unfit_give_up s g why broken off l legal means = sym (giving_none (get_of l g) ∙ ap (gets_stand is_trying) (shown_get l s means g) ∙ off)

@@ -1,4 +1,4 @@
--- The steps at which a get lets go of what it holds, or ends without being served: both ends of a
+-- The steps at which a get releases what it holds, or ends without being served: both ends of a
 -- check, and a give-up.
 use Rattle.bb8_core.proofs.Words.{◌≡◌, ℕ, suc, ◌+◌, ◌*◌, max, min, Bool, true, false, not, eqb, ◌&&◌, ◌||◌, cond, List, Option, Some, None, slice_get, refl, sym, ap, ◌∙◌, IfSome, get, Grant, Idle, Active, Getting, Counters, reason_of, counts_held, Counts, CheckedOk, CheckedErr, GiveUp, Served, Kept, Closed, GaveUp, Numbered, update, in_order, standing_at, one, after_end, Ledger, Later, start, position, latest, records, gets, peak, get_peak, get_of, counts, wait_micros, broken, timed_out, cancelled, with_notice, get_at_place, unnotified_at, oldest_waiter, waiting, expires, holds, first_wait_of, is_notified, is_unnotified, gets_stand, micros_since, checks, check_fails, gives_up, gives_up_kept, gives_up_closed, StateView, IsFitting, RecordsView, GetsView, waited_before, peak_holds, get_peak_holds, holding_is, most_micros, is_doubtful, ltb, retired}
 use Rattle.bb8_types.specs.declared.reasons.Reason.{Reason as Named}
@@ -10,7 +10,7 @@ use Rattle.bb8_core.proofs.ShownGets.{shown-ended, shown-turned, noticed_later, 
 use Rattle.bb8_core.proofs.Fitting.{shown, shown_get, giving_is, held_record}
 use Rattle.bb8_core.proofs.Steps.{IsStep, Notices, Returned, meets_by, same_shown, served, count_served, same_micros, next_gets, records_kept, later_shown, still_raised, kept_records, kept_is, kept_shown, closes_is, closing_is, IsEndGrant, ended_records, ended_shown, closed_counters, closed_is, old_shown}
 
--- whoever is named stands there
+-- the named get is alive
 named_stands : (first p : ℕ) (gs : List (Numbered Getting)) (b : Bool) (n : Option ℕ)
     → n ≡ cond b (slice_get (in_order unnotified_at first gs p) 0) None → IfSome n (λ k. (s : Getting) × (standing_at first gs k ≡ Some s))
 named_stands first p gs b None e = tt
@@ -126,15 +126,15 @@ module _ {C : Type 0} where
       → is ≡ closed_counters (invalid_counters was) broken (ltb k s.retired) aged
       → IsStep s at (CheckedErr g broken) (Closed k grant n)
       (record s { latest = now; records = rs; gets = gs; counts = counts_held is })
-  meets_invalid {s} {at} {g} {k} {broken} {now} {birth} {aged} {o} {grant} {rs} {n} {gs} was {is} fit h r granted rs_is told were is_is =
+  meets_invalid {s} {at} {g} {k} {broken} {now} {birth} {aged} {o} {grant} {rs} {n} {gs} was {is} fit h r granted rs_is outcome were is_is =
       meets_by (λ t. IsHeld t g k × IsEndGrant t k grant × (n ≡ slice_get t.gets.waiting 0) × (t.counts ≡ counts_held was))
       (λ t. record t {
         latest = max t.latest at;
         records = ended_records t k grant;
         gets = machine.after_notice n (machine.after_turn Active g t.gets);
         counts = counts_held (closed_counters (invalid_counters was) broken (ltb k t.retired) (decided.is_old t at k));
-      }) s _ at (CheckedErr g broken) (Closed k grant n) fit (is_held h, granted, told.who, were)
-      (same_shown _ _ refl refl refl h.now_is refl rs_is told.after (ap counts_held (closed_is (invalid_counters was) broken r is_is)))
+      }) s _ at (CheckedErr g broken) (Closed k grant n) fit (is_held h, granted, outcome.who, were)
+      (same_shown _ _ refl refl refl h.now_is refl rs_is outcome.after (ap counts_held (closed_is (invalid_counters was) broken r is_is)))
       (λ l legal f known.
       let held = holds_in l g k known.0 in
       let st = held_record l g k legal held in
@@ -244,7 +244,7 @@ module _ {C : Type 0} where
       → is ≡ given_up reason now since was
       → IsStep s at (GiveUp g (reason_of reason) (Some c) broken) (Kept k n)
       (record s { latest = now; records = rs; gets = gs; counts = counts_held is })
-  meets_given_up_kept {s} {at} {g} {k} reason {c} {broken} {now} {birth} {aged} {doubt} {o} {since} {rs} {n} {gs} was {is} fit h r doubt_is keep rs_is told were since_is counted =
+  meets_given_up_kept {s} {at} {g} {k} reason {c} {broken} {now} {birth} {aged} {doubt} {o} {since} {rs} {n} {gs} was {is} fit h r doubt_is keep rs_is outcome were since_is counted =
       meets_by (λ t. IsHeld t g k × (decided.closes t at k (is_doubtful t.config broken) ≡ false)
       × (n ≡ slice_get (machine.after_get_end g t.gets).waiting 0) × (t.counts ≡ counts_held was))
       (λ t. record t {
@@ -253,8 +253,8 @@ module _ {C : Type 0} where
         gets = machine.after_notice n (machine.after_get_end g t.gets);
         counts = counts_held (given_up reason (max t.latest at) (first_wait_of (get t.gets.places g)) was);
       }) s _ at (GiveUp g (reason_of reason) (Some c) broken) (Kept k n) fit
-      (is_held h, closing_is (is_doubtful s.config broken) r (ap (λ (b : Bool). b || (aged || eqb s.handles 0)) (sym doubt_is) ∙ keep), told.who, were)
-      (same_shown _ _ refl refl refl h.now_is refl (kept_is c r rs_is) told.after
+      (is_held h, closing_is (is_doubtful s.config broken) r (ap (λ (b : Bool). b || (aged || eqb s.handles 0)) (sym doubt_is) ∙ keep), outcome.who, were)
+      (same_shown _ _ refl refl refl h.now_is refl (kept_is c r rs_is) outcome.after
       (ap counts_held (given_up_shown s at g reason was h.now_is h.get_is since_is counted)))
       (λ l legal f known.
       let held = holds_in l g k known.0 in
@@ -275,7 +275,7 @@ module _ {C : Type 0} where
       → mid ≡ given_up reason now since was → is ≡ closed_counters mid doubt (ltb k s.retired) aged
       → IsStep s at (GiveUp g (reason_of reason) (Some c) broken) (Closed k grant n)
       (record s { latest = now; records = rs; gets = gs; counts = counts_held is })
-  meets_given_up_closed {s} {at} {g} {k} reason {c} {broken} {now} {birth} {aged} {doubt} {o} {since} {grant} {rs} {n} {gs} was {mid} {is} fit h r doubt_is closing granted rs_is told were since_is counted is_is =
+  meets_given_up_closed {s} {at} {g} {k} reason {c} {broken} {now} {birth} {aged} {doubt} {o} {since} {grant} {rs} {n} {gs} was {mid} {is} fit h r doubt_is closing granted rs_is outcome were since_is counted is_is =
       meets_by (λ t. IsHeld t g k × (decided.closes t at k (is_doubtful t.config broken) ≡ true) × IsEndGrant t k grant
       × (n ≡ slice_get (machine.after_get_end g t.gets).waiting 0) × (t.counts ≡ counts_held was))
       (λ t. record t {
@@ -284,8 +284,8 @@ module _ {C : Type 0} where
         gets = machine.after_notice n (machine.after_get_end g t.gets);
         counts = counts_held (closed_counters (given_up reason (max t.latest at) (first_wait_of (get t.gets.places g)) was) (is_doubtful t.config broken) (ltb k t.retired) (decided.is_old t at k));
       }) s _ at (GiveUp g (reason_of reason) (Some c) broken) (Closed k grant n) fit
-      (is_held h, closing_is (is_doubtful s.config broken) r (ap (λ (b : Bool). b || (aged || eqb s.handles 0)) (sym doubt_is) ∙ closing), granted, told.who, were)
-      (same_shown _ _ refl refl refl h.now_is refl rs_is told.after
+      (is_held h, closing_is (is_doubtful s.config broken) r (ap (λ (b : Bool). b || (aged || eqb s.handles 0)) (sym doubt_is) ∙ closing), granted, outcome.who, were)
+      (same_shown _ _ refl refl refl h.now_is refl rs_is outcome.after
       (ap counts_held (closed_is mid (is_doubtful s.config broken) r (is_is ∙ ap (λ (b : Bool). closed_counters mid b (ltb k s.retired) aged) doubt_is)
       ∙ ap (λ (x : Counters). closed_counters x (is_doubtful s.config broken) (ltb k s.retired) (decided.is_old s at k)) (given_up_shown s at g reason was h.now_is h.get_is since_is counted))))
       (λ l legal f known.

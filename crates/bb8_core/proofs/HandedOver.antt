@@ -3,71 +3,71 @@ use Rattle.bb8_core.proofs.Words.{◌≡◌, ◌∙◌, ℕ, Bool, true, false, 
 use Rattle.bb8_tables.specs.declared.keys.GetKey.{GetKey}
 use Rattle.bb8_core.specs.declared.answers.TryAnswer.{TryAnswer}
 use Rattle.bb8_core.specs.StepAnswers.{answer_of_try}
-use Rattle.bb8_core.specs.StateView.{Meets, Represents}
+use Rattle.bb8_core.specs.StateView.{Meets, Represents, Steps}
 use Rattle.bb8_tables.specs.Keys.{notified_of}
 use Rattle.bb8_core.specs.HandedOver.{Follows, HandsOn, StepsAndTries, StaysPrompt}
-use Rattle.bb8_ledger.specs.Handed.{told_by}
+use Rattle.bb8_ledger.specs.Handed.{notified_by}
 use Rattle.bb8_ledger.proofs.Handed.{told_tries, handed_over, prompt_then, prompt_tried}
 use Rattle.bb8_core.proofs.Runs.{shown_try}
 
 -- an answer that notifies, of an event that is allowed, is a row of the table
-told_row : (b : Bool) (P : Type 0) (a : Answer) (g : ℕ) → MatchBool b P (a ≡ Unfit) → told_by a ≡ Some g → P × (b ≡ true)
-told_row true P a g p told = (p, refl)
-told_row false P a g p told = absurd (let clash : None ≡ Some g = sym (ap told_by p) ∙ told in cc)
+told_row : (b : Bool) (P : Type 0) (a : Answer) (g : ℕ) → MatchBool b P (a ≡ Unfit) → notified_by a ≡ Some g → P × (b ≡ true)
+told_row true P a g p outcome = (p, refl)
+told_row false P a g p outcome = absurd (let clash : None ≡ Some g = sym (ap notified_by p) ∙ outcome in cc)
 
 module _ {C : Type 0} where
   -- on a legal ledger that the state represents, the get may try
-  tries_on : {s t : StateView C} (at g : ℕ) (e : Act C) (a : Answer) (l : Ledger C) → IsLegal l → Represents l s → Meets s at e a t → told_by a ≡ Some g
+  tries_on : {s t : StateView C} (at g : ℕ) (e : Act C) (a : Answer) (l : Ledger C) → IsLegal l → Represents l s → Meets s at e a t → notified_by a ≡ Some g
       → Row l at e a × (fits l e ≡ true) × (fits (Later l at e a) (Try g) ≡ true)
-  tries_on at g e a l legal means step told =
-      let row = told_row (fits l e) _ a g (step l legal means).0 told in
-      (row.0, row.1, told_tries l at e a g row.1 row.0 told)
+  tries_on at g e a l legal means step outcome =
+      let row = told_row (fits l e) _ a g (step l legal means).0 outcome in
+      (row.0, row.1, told_tries l at e a g row.1 row.0 outcome)
 
-  may_try : {s t : StateView C} (at g : ℕ) (e : Act C) (a : Answer) → HasLedger s → Meets s at e a t → told_by a ≡ Some g → IsFitting t (Try g)
-  may_try {s} {t} at g e a h step told later legal means =
-      shown_try later t g means ∙ sym (shown_try (Later h.0 at e a) t g (step h.0 h.1 h.2).1) ∙ (tries_on at g e a h.0 h.1 h.2 step told).2
+  may_try : {s t : StateView C} (at g : ℕ) (e : Act C) (a : Answer) → HasLedger s → Meets s at e a t → notified_by a ≡ Some g → IsFitting t (Try g)
+  may_try {s} {t} at g e a h step outcome later legal means =
+      shown_try later t g means ∙ sym (shown_try (Later h.0 at e a) t g (step h.0 h.1 h.2).1) ∙ (tries_on at g e a h.0 h.1 h.2 step outcome).2
 
-  hands_on : {s t u : StateView C} (at g : ℕ) (e : Act C) (a b : Answer) → Meets s at e a t → told_by a ≡ Some g → Meets t at (Try g) b u → HandsOn s at e a g b
-  hands_on {s} {t} {u} at g e a b step told next l legal means none =
+  hands_on : {s t u : StateView C} (at g : ℕ) (e : Act C) (a b : Answer) → Meets s at e a t → notified_by a ≡ Some g → Meets t at (Try g) b u → HandsOn s at e a g b
+  hands_on {s} {t} {u} at g e a b step outcome next l legal means none =
       let now = step l legal means in
-      let row = tries_on at g e a l legal means step told in
+      let row = tries_on at g e a l legal means step outcome in
       let later : IsLegal (Later l at e a) = (legal, now.0) in
       let tries : Row (Later l at e a) at (Try g) b =
       subst (λ (x : Bool). MatchBool x (Row (Later l at e a) at (Try g) b) (b ≡ Unfit)) row.2 (next (Later l at e a) later now.1).0 in
-      handed_over l at at g e a b later row.1 row.0 told tries none
+      handed_over l at at g e a b later row.1 row.0 outcome tries none
 
   -- so where a step notified a get, it may
-  pub fits_told : {s t : StateView C} (at : ℕ) (e : Act C) (a : Answer) (n : Option GetKey) → HasLedger s → Meets s at e a t → told_by a ≡ notified_of n → IfSome n (λ g. IsFitting t (Try g.number))
-  fits_told at e a None h step told = tt
-  fits_told at e a (Some g) h step told = may_try at g.number e a h step told
+  pub fits_told : {s t : StateView C} (at : ℕ) (e : Act C) (a : Answer) (n : Option GetKey) → Steps s at e a t → notified_by a ≡ notified_of n → IfSome n (λ g. IsFitting t (Try g.number))
+  fits_told at e a None step outcome = tt
+  fits_told at e a (Some g) step outcome = may_try at g.number e a step.0.0 step.1 outcome
 
-  -- and no try that fits is told to be unfit
+  -- and no try that fits is reported as unfit
   no_row : (l : Ledger C) (at g : ℕ) → Row l at (Try g) Unfit → ⊥
   no_row l at g r = elim r [ ]
 
-  pub made_once_fitting : {s t : StateView C} {G : Type 0} (at g : ℕ) → HasLedger s → IsFitting s (Try g) → Meets s at (Try g) Unfit t → G
-  made_once_fitting at g h fit step =
+  pub made_once_fitting : {s t : StateView C} {G : Type 0} (at g : ℕ) → IsFitting s (Try g) → Steps s at (Try g) Unfit t → G
+  made_once_fitting at g fit ((h, limits), step) =
       absurd (no_row h.0 at g (subst (λ (b : Bool). MatchBool b (Row h.0 at (Try g) Unfit) (Unfit ≡ Unfit)) (fit h.0 h.1 h.2) (step h.0 h.1 h.2).0))
 
-  -- and a step and this try hand over
+  -- and a step and this try are a hand-off
   pub hands_over : {s t : StateView C} (u : StateView C) (at : ℕ) (e : Act C) (a : Answer) (n : Option GetKey) (o : Option (TryAnswer C))
-      → Meets s at e a t → told_by a ≡ notified_of n → Follows t at n o u → StepsAndTries o s at e a u
-  hands_over {s} {t} u at e a None None step is same = (subst (λ (x : StateView C). Meets s at e a x) (sym same) step, is)
-  hands_over {s} {t} u at e a (Some g) (Some tried) step is next = (g.number, is, t, step, next.0, next.1, hands_on at g.number e a (answer_of_try tried) step is next.0)
+      → Steps s at e a t → notified_by a ≡ notified_of n → Follows t at n o u → StepsAndTries o s at e a u
+  hands_over {s} {t} u at e a None None step is same = (subst (λ (x : StateView C). Steps s at e a x) (sym same) step, is)
+  hands_over {s} {t} u at e a (Some g) (Some tried) step is next = (g.number, is, t, step, next.0, next.1, hands_on at g.number e a (answer_of_try tried) step.1 is next.0.1)
   hands_over {s} {t} u at e a None (Some tried) step is next = absurd next
   hands_over {s} {t} u at e a (Some g) None step is next = absurd next
 
   -- so a prompt history stays prompt
   pub stays_prompt : (s u : StateView C) (o : Option (TryAnswer C)) (at : ℕ) (e : Act C) (a : Answer) → StepsAndTries o s at e a u → StaysPrompt o s at e a
-  stays_prompt s u None at e a h = λ l legal means. prompt_then l at e a (h.0 l legal means).0 h.1
-  stays_prompt s u (Some tried) at e a (g, told, between, step, next, out, on) = (
+  stays_prompt s u None at e a h = λ l legal means. prompt_then l at e a (h.0.1 l legal means).0 h.1
+  stays_prompt s u (Some tried) at e a (g, outcome, between, (within, step), (still, next), out, on) = (
     g,
-    told,
+    outcome,
     λ l legal means.
-        let row = tries_on at g e a l legal means step told in
+        let row = tries_on at g e a l legal means step outcome in
         let now = step l legal means in
         let later : IsLegal (Later l at e a) = (legal, now.0) in
         let tries : Row (Later l at e a) at (Try g) (answer_of_try tried) =
         subst (λ (x : Bool). MatchBool x (Row (Later l at e a) at (Try g) (answer_of_try tried)) (answer_of_try tried ≡ Unfit)) row.2 (next (Later l at e a) later now.1).0 in
-        prompt_tried l at at g e a (answer_of_try tried) row.0 told tries,
+        prompt_tried l at at g e a (answer_of_try tried) row.0 outcome tries,
   )

@@ -12,4 +12,4 @@ pub mod Closings
 pub mod Runs
 pub mod AtOnce
 pub mod HandedOver
-pub mod Parts
+pub mod StepBounds

@@ -5,7 +5,7 @@ use Rattle.bb8_tables.specs.Machine as machine
 use Rattle.bb8_types.proofs.Numbered as numbered
 use Rattle.bb8_ledger.proofs.Waiters.{tally_same, begins_now, waiter, getting_is, alive_counted, begins_alive, notify_alive}
 
--- a get that stands in no line is at no position of it
+-- a get in no queue is at no position of it
 not_in_line : (g : Numbered Getting) (s : Getting) → g.standing ≡ Some s → is_unnotified s.place ≡ false → (q : ℕ) → unnotified_at q g ≡ false
 not_in_line g s is off q = ap (λ (t : Bool). t && eqb g.position q) (ap (gets_stand is_unnotified) is ∙ off)
 
@@ -45,7 +45,7 @@ module _ (first p top : ℕ) (gs : List (Numbered Getting)) where
       (omega arith)
       (omega arith)
 
-  -- a get that stands in no line stands elsewhere, in no line either
+  -- a get in no queue changes its state, and is in no queue either
   pub shown-turned : (place : GetPlace) (k : ℕ) (s : Getting) → Before unnotified_at p gs → alive_of gs ≤ top → standing_at first gs k ≡ Some s
       → is_unnotified s.place ≡ false → is_unnotified place ≡ false
       → shown_gets first (suc p) (max top (alive_of (update first k (get_at_place place) gs)))
@@ -73,7 +73,7 @@ module _ (first p top : ℕ) (gs : List (Numbered Getting)) where
       still_alive None = refl
       still_alive (Some x) = refl
 
-  -- a get that stands in no line begins to wait
+  -- a get in no queue begins to wait
   pub shown-waits : (now k : ℕ) (s : Getting) → Before unnotified_at p gs → alive_of gs ≤ top → standing_at first gs k ≡ Some s
       → is_unnotified s.place ≡ false → shown_gets first (suc p) (max top (alive_of (update first k (at_wait now p) gs)))
       (update first k (at_wait now p) gs) ≡ machine.after_wait now k before

@@ -18,7 +18,7 @@ map-change f (r ∷ rs) n k new old h e = elim (same_or_not k n) [
 ]
 
 module _ {C : Type 0} where
-  -- a record stands idle since one position
+  -- a record is idle since one position
   idle_once : (p q : ℕ) (r : Numbered (Standing C)) → idle_at p r ≡ true → idle_at q r ≡ true → p ≡ q
   idle_once p q r a b = sym (numbered.tested r.position p (and_right (stands is_idle r.standing) _ a).1) ∙ numbered.tested r.position q (and_right (stands is_idle r.standing) _ b).1
 
@@ -38,7 +38,7 @@ module _ {C : Type 0} where
   unclaimed_left : (s : Standing C) → is_unclaimed s.place ≡ true → is_left (Some s) ≡ true
   unclaimed_left s h = let place : s.place ≡ Unclaimed = unclaimed_is s.place h in ap (λ (p : Place C). is_idle p || is_unclaimed p) place
 
-  -- an idle connection ends, and what is left of the line is told
+  -- an idle connection ends, and the rest of the queue is known
   pub idle-ended : {line : List ℕ} (first p top : ℕ) (rs : List (Numbered (Standing C))) (k : ℕ) (r : Numbered (Standing C)) → at first rs k ≡ Some r → stands is_idle r.standing ≡ true
       → in_order idle_at first (change first k (after_end r) rs) p ≡ line
       → shown_records first p top (change first k (after_end r) rs) ≡ record (shown_records first p top rs) { places = remove (standings first rs) k; idle = line; conns = conns_of rs - 1 }

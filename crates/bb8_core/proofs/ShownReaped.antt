@@ -1,4 +1,4 @@
--- What a reap does to what is shown: those that live too long end, wherever they stand in line, and
+-- What a reap does to the view: those that live too long end, wherever they are in the queue, and
 -- then some from the front of the line.
 use Rattle.bb8_core.proofs.Words.{◌≡◌, ◌≢◌, ℕ, zero, suc, ◌+◌, ◌-◌, ◌≤◌, Bool, true, false, cond, eqb, ◌&&◌, List, [], ◌∷◌, ◌++◌, map, filter, take, length, slice_get, Option, Some, None, option_and_then, ◌⊎◌, inl, inr, refl, sym, ap, ◌∙◌, arith, subst, eq-eqb, ne_eqb, unwrap_or, get, Standing, Settings, Numbered, at, update, numbers, in_order, tally, one, standing_at, after_end, after_end_where, stands, is_idle, idles_out, lives_out, Start, idle_at, idle_of, with_ended, outlived, idled, over_idle_at, RecordsView, after_reaped, after_reap, AreReaped, AreFirst, beyond, shown_records, change, same_or_not, at-below, Before, and_right, idle_counted, ended_all_before, ended_swept, over_idle, over_idle_line, lives_idle, idles_idle}
 use Rattle.std.proofs.lemmas.List.Elements.{filter-append}
@@ -6,7 +6,7 @@ use Rattle.bb8_types.proofs.Numbered as numbered
 use Rattle.bb8_core.proofs.ShownLeft.{map-change, idle-ended}
 
 module _ {C : Type 0} where
-  -- what stands in an element, if there is one
+  -- the content of an element, if there is one
   abbrev standing_in : Option (Numbered (Standing C)) → Option (Standing C)
   standing_in = option_and_then (λ r. r.standing)
 
@@ -82,7 +82,7 @@ module _ {C : Type 0} where
         go None e = absurd (let clash : false ≡ true = sym (ap test (shown_standing rs k ∙ ap standing_in e) ∙ off) ∙ h in cc)
         go (Some r) e = (r, e, sym (ap test (shown_standing rs k ∙ ap standing_in e)) ∙ h)
 
-    -- an idle one ends, wherever it stands in line
+    -- an idle one ends, wherever it is in the queue
     shown-idle_end : (rs : List (Numbered (Standing C))) (k : ℕ) (r : Numbered (Standing C)) → at s.first rs k ≡ Some r → stands is_idle r.standing ≡ true
         → show (change s.first k (after_end r) rs) ≡ after_reaped k (show rs)
     shown-idle_end rs k r h idle_now = idle-ended s.first p top rs k r h idle_now (numbered.in_order-change_off idle_at rs s.first k (after_end r) (λ q. refl) p)
@@ -95,7 +95,7 @@ module _ {C : Type 0} where
     abbrev swept : List (Numbered (Standing C)) → List (Numbered (Standing C))
     swept = map (after_end_where due)
 
-    -- Records of which those of these numbers ended: a sweep makes the same of them, and the tally
+    -- Records after those of these numbers ended: a sweep makes the same of them, and the tally
     -- has lost those that ended.
     record Ends (ks : List ℕ) (rs : List (Numbered (Standing C))) : Type 0 where
       pub to : List (Numbered (Standing C))

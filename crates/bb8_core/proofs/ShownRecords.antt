@@ -24,7 +24,7 @@ module _ {C : Type 0} where
       (sym (numbered.get-numbered (λ (x : Numbered (Standing C)). x.standing) rs first k
       ∙ ap (option_and_then (λ (x : Numbered (Standing C)). x.standing)) h ∙ e))
 
-  -- One record changes: the sizes follow from what it was and what it is, and the rest is told.
+  -- One record changes: the sizes follow from what it was and what it is, and the rest is given.
   pub shown-changed : {t : RecordsView C} (first p top k : ℕ) (rs : List (Numbered (Standing C))) (new r : Numbered (Standing C)) (a b c d : Bool)
       → at first rs k ≡ Some r → stands is_conn r.standing ≡ a → stands is_conn new.standing ≡ b
       → stands is_approval r.standing ≡ c → stands is_approval new.standing ≡ d

@@ -1,12 +1,13 @@
 -- Each step, from what it does to what is shown to what it does on every legal ledger.
-use Rattle.bb8_core.proofs.Words.{◌≡◌, ℕ, suc, ◌+◌, ◌-◌, ◌*◌, ◌<◌, ◌≤◌, max, min, Bool, true, false, not, eqb, ◌&&◌, ◌||◌, List, length, Option, Some, None, slice_get, refl, sym, ap, ◌∙◌, arith, subst, is_some, MatchBool, ◌≢◌, IfSome, cond, ltb, get, nat_tests, Grant, Place, Claimed, Idle, Held, Guarded, Standing, Holding, Getting, Counters, counts_held, Counts, Figures, Act, Begin, Try, PutBack, Detach, Fill, Ask, Claim, Opened, Failed, Add, Join, Leave, Close, Look, Answer, Begun, Memory, Exhausted, Served, Taken, Kept, Closed, Granted, Ended, Entered, Late, GivenBack, Broken, NoCapacity, Withheld, Added, Joined, Left, Looked, Numbered, update, one, after_end, at_entry, Ledger, Later, start, position, latest, handles, records, gets, peak, get_peak, alive, idle, record_of, get_of, idle_at, at_place, entry, with_approvals, idle_count, conns, approved, conns_of, approved_of, alive_of, counts, figures, wait_micros, next, with_notice, oldest_waiter, waiting, stands, first_of, first_place, first_wait_of, is_claimed, is_guarded, is_out, is_unnotified, is_trying, gets_stand, birth_in, entered_in, is_checked, asks_check, is_expired, retired, expires, micros_since, Allowed, IsLegal, Row, begins, begin_refused, begin_exhausted, serves, keeps, returns_closed, detaches, takes_out, fills, asks_for, claims, claim_ended, opens, opens_late, fails, fits, closes, IsWant, with_record, adds, add_broken, add_full, add_exhausted, add_refused, waits_on, waits, joins, join_exhausted, leaves, shuts, looks, due, lacking, IsGranted, IsNoGrant, StateView, shown_records, shown_gets, Represents, Meets, HasLedger, IsFitting, RecordsView, GetsView, Before, before_later, ne_test, standing_is, claimed_is, guarded_out, idle_from, unclaimed_from, conn_from, entered_before, waited_before, put_before, ended_before, peak_holds, get_peak_holds, idle_counted, idle_tally, waiting_counted, trying_is, claimed_counted, waits_on_gets, end_of_numbers, most_handles, most_micros, State, ShownFigures, shows, detached}
+use Rattle.bb8_core.proofs.Words.{◌≡◌, ℕ, suc, ◌+◌, ◌-◌, ◌*◌, ◌<◌, ◌≤◌, max, min, Bool, true, false, not, eqb, ◌&&◌, ◌||◌, List, length, Option, Some, None, slice_get, refl, sym, ap, ◌∙◌, arith, subst, is_some, MatchBool, ◌≢◌, IfSome, cond, ltb, get, nat_tests, Grant, Place, Claimed, Idle, Held, Guarded, Standing, Holding, Getting, Counters, counts_held, Counts, Figures, Act, Begin, Try, PutBack, Detach, Evict, Fill, Ask, Claim, Opened, Failed, Add, Join, Leave, Close, Look, Answer, Begun, Memory, Exhausted, Served, Taken, Kept, Closed, Granted, Ended, Entered, Late, GivenBack, Broken, NoCapacity, Withheld, Added, Joined, Left, Looked, Numbered, update, one, after_end, at_entry, Ledger, Later, start, position, latest, handles, records, gets, peak, get_peak, alive, idle, record_of, get_of, idle_at, at_place, entry, with_approvals, idle_count, conns, approved, conns_of, approved_of, alive_of, counts, figures, wait_micros, next, with_notice, oldest_waiter, waiting, stands, first_of, first_place, first_wait_of, is_claimed, is_guarded, is_idle, is_out, is_unnotified, is_trying, gets_stand, birth_in, entered_in, is_checked, asks_check, is_expired, retired, expires, micros_since, Allowed, IsLegal, Row, begins, begin_refused, begin_exhausted, serves, keeps, returns_closed, detaches, evicts, takes_out, fills, asks_for, claims, claim_ended, opens, opens_late, fails, fits, closes, IsWant, with_record, adds, add_broken, add_full, add_exhausted, add_refused, waits_on, waits, joins, join_exhausted, leaves, shuts, looks, due, lacking, IsGranted, IsNoGrant, StateView, shown_records, shown_gets, Represents, IsWithinLimits, Steps, keeps_limits, keeps_laws, keeps_promises, HasLedger, IsFitting, RecordsView, GetsView, after_reaped, Before, before_later, ne_test, standing_is, claimed_is, guarded_out, idle_from, unclaimed_from, conn_from, entered_before, waited_before, put_before, ended_before, peak_holds, get_peak_holds, idle_counted, idle_tally, waiting_counted, trying_is, claimed_counted, waits_on_gets, end_of_numbers, most_handles, most_micros, State, ShownFigures, shows, detached}
 use Rattle.std.proofs.lemmas.Bool.Decides.{leb_tells}
 use Rattle.bb8_ledger.specs.Answers as answers
 use Rattle.bb8_tables.specs.Machine as machine
 use Rattle.bb8_core.specs.Decided as decided
 use Rattle.bb8_core.proofs.ShownRecords.{shown-claimed, shown-taken, shown-closed, shown-entered, shown-approve, raised_same, shown-born}
 use Rattle.bb8_core.proofs.ShownRecords as of_records
-use Rattle.bb8_core.proofs.ShownLeft.{shut, shown-left, left_few}
+use Rattle.bb8_types.proofs.Numbered as numbered
+use Rattle.bb8_core.proofs.ShownLeft.{shut, shown-left, left_few, idle-ended}
 use Rattle.bb8_core.proofs.ShownGets.{shown-kept, shown-begun, shown-ended, shown-turned, shown-waits, noticed_later, first_waits}
 use Rattle.bb8_core.proofs.Fitting.{shown, unexamined, bare, beside, as_shown, shown_record, shown_get}
 
@@ -29,7 +30,7 @@ used_up {b} n is e = grind (arith, nat_tests, leb_tells (suc n) end_of_numbers)
 pub open_now : (n : ℕ) → n ≢ 0 → 0 < n
 open_now n h = omega arith
 
--- a connection that comes back is closed as it is broken, or too old or retired, or the pool has
+-- a returned connection is closed as it is broken, or too old or retired, or the pool has
 -- ended: whichever is asked first
 regrouped : (b o e r : Bool) → (b || (o || (e || r))) ≡ (b || ((o || r) || e))
 regrouped true o e r = refl
@@ -59,7 +60,7 @@ served was now since = record was {
 pub none_more : (m : ℕ) → m + 0 ≡ m
 none_more m = omega arith
 
--- the counters after a connection was closed that came back
+-- the counters after a returned connection was closed
 abbrev pub closed_counters : Counters → Bool → Bool → Bool → Counters
 closed_counters was broken retired aged = record was {
   broken = was.broken + one broken;
@@ -72,8 +73,8 @@ abbrev pub detached_counters : Counters → Counters
 detached_counters was = record was { detached = was.detached + 1 }
 
 module _ {C : Type 0} where
-  pub same_shown : (s t : StateView C) → s.lent ≡ t.lent → s.config ≡ t.config → s.retired ≡ t.retired → s.latest ≡ t.latest → s.handles ≡ t.handles → s.records ≡ t.records → s.gets ≡ t.gets → s.counts ≡ t.counts → s ≡ t
-  same_shown s t lent config retired latest handles records gets counts = λ i. record { config = config i; retired = retired i; latest = latest i; handles = handles i; records = records i; gets = gets i; counts = counts i; lent = lent i }
+  pub same_shown : (s t : StateView C) → s.reads ≡ t.reads → s.config ≡ t.config → s.retired ≡ t.retired → s.latest ≡ t.latest → s.handles ≡ t.handles → s.records ≡ t.records → s.gets ≡ t.gets → s.counts ≡ t.counts → s ≡ t
+  same_shown s t reads config retired latest handles records gets counts = λ i. record { config = config i; retired = retired i; latest = latest i; handles = handles i; records = records i; gets = gets i; counts = counts i; reads = reads i }
 
   -- What an event does to a state, as a fact that names the event and the answer: on each legal
   -- ledger that the state represents the answer is allowed, and the ledger that it leads to shows
@@ -81,17 +82,23 @@ module _ {C : Type 0} where
   pub record Step (s : StateView C) (at : ℕ) (e : Act C) (a : Answer) (new : StateView C) : Type 0 where
     pub leads : (l : Ledger C) → IsLegal l → Represents l s → Allowed l at e a × (shown (Later l at e a) ≡ new)
 
-  -- whatever was lent
+  -- whatever was counted
   abbrev pub IsStep : StateView C → ℕ → Act C → Answer → StateView C → Type 0
   IsStep s at e a new = Step s at e a (unexamined new)
 
-  -- A step leads from a state that has a ledger to one that has one. The old state is the view of
-  -- the fields.
-  pub led : {s t : StateView C} (new : StateView C) (at : ℕ) (e : Act C) (a : Answer) → s ≡ t → HasLedger s → Meets t at e a new → HasLedger new
-  led new at e a is h meets = let step = meets h.0 h.1 (as_shown h.0 is h.2) in (Later h.0 at e a, (h.1, step.0), step.1)
+  -- A state that has a ledger keeps the limits. The state is the view of the fields.
+  pub within : {s t : StateView C} → s ≡ t → HasLedger s → IsWithinLimits t
+  within is (l, legal, means) = ((l, legal, as_shown l is means), λ l legal means. (keeps_limits l legal, keeps_laws l legal, keeps_promises l legal))
 
-  pub at_view : {s t new : StateView C} {at : ℕ} {e : Act C} {a : Answer} → s ≡ t → IsStep s at e a new → Meets t at e a new
-  at_view {at = at} {e = e} {a = a} is m l legal means = let done = m.leads l legal (as_shown l (sym is) means) in (done.0, beside (Later l at e a) done.1)
+  -- a step leads to a state that has a ledger
+  pub led : {s : StateView C} (new : StateView C) (at : ℕ) (e : Act C) (a : Answer) → Steps s at e a new → HasLedger new
+  led new at e a ((h, limits), meets) = let step = meets h.0 h.1 h.2 in (Later h.0 at e a, (h.1, step.0), step.1)
+
+  pub at_view : {s t new : StateView C} {at : ℕ} {e : Act C} {a : Answer} → s ≡ t → HasLedger s → IsStep s at e a new → Steps t at e a new
+  at_view {at = at} {e = e} {a = a} is h m = (
+    within is h,
+    λ l legal means. let done = m.leads l legal (as_shown l (sym is) means) in (done.0, beside (Later l at e a) done.1),
+  )
 
   pub fits_view : {s t : StateView C} (e : Act C) → s ≡ t → IsFitting t e → IsFitting s e
   fits_view e is f l legal means = f l legal (as_shown l is means)
@@ -111,7 +118,7 @@ module _ {C : Type 0} where
   gets_kept l = shown-kept (start l).first_get (position l) (get_peak l) (gets l) (waited_before l) (get_peak_holds l)
 
   -- A step is proved of what a ledger shows: what is known of the state is known of that, and the
-  -- new state is told by the old one.
+  -- new state is known from the old one.
   pub meets_by : (Known : StateView C → Type 0) (next : StateView C → StateView C) (s new : StateView C) (at : ℕ) (e : Act C) (a : Answer) → IsFitting s e
       → Known (unexamined s) → new ≡ next (unexamined s) → ((l : Ledger C) → IsLegal l → fits l e ≡ true → Known (shown l) → Row l at e a
       × (shown (Later l at e a) ≡ next (shown l))) → Step s at e a new
@@ -193,7 +200,7 @@ module _ {C : Type 0} where
   closes_is l at k broken = ap (λ (o : Option (Standing C)). broken
       || ((is_expired (start l).config.max_lifetime (max (latest l) at) (birth_in o) || ltb k (retired l)) || eqb (handles l) 0)) (shown_record l (shown l) refl k)
 
-  -- what the code knows when a connection has come back
+  -- what the code knows when a connection was returned
   pub record Returned (s : StateView C) (at k now birth : ℕ) (aged : Bool) : Type 0 where
     pub now_is : now ≡ max s.latest at
     pub birth_is : birth ≡ birth_in (get s.records.places k)
@@ -255,11 +262,11 @@ module _ {C : Type 0} where
       → (broken || (aged || eqb s.handles 0)) ≡ false
       → rs ≡ machine.after_entry false k (record { place = Idle c; birth = birth; entered = now }) s.records
       → IsStep s at (PutBack k c broken) (Kept k n) (record s { latest = now; records = rs; gets = gs })
-  meets_returned_kept {s} {at} {k} {c} {broken} {now} {birth} {aged} {rs} {n} {gs} fit told r keep rs_is =
+  meets_returned_kept {s} {at} {k} {c} {broken} {now} {birth} {aged} {rs} {n} {gs} fit outcome r keep rs_is =
       meets_by (λ t. (decided.closes t at k broken ≡ false) × (n ≡ slice_get t.gets.waiting 0))
       (λ t. record t { latest = max t.latest at; records = kept_records t at k c; gets = machine.after_notice n t.gets }) s _ at
-      (PutBack k c broken) (Kept k n) fit (closing_is broken r keep, told.who)
-      (same_shown _ _ refl refl refl r.now_is refl (kept_is c r rs_is) told.after refl)
+      (PutBack k c broken) (Kept k n) fit (closing_is broken r keep, outcome.who)
+      (same_shown _ _ refl refl refl r.now_is refl (kept_is c r rs_is) outcome.after refl)
       (λ l legal f known.
       let st = standing_is is_guarded (record_of l k) f in (
         keeps (closes_is l at k broken ∙ known.0) known.1,
@@ -280,15 +287,15 @@ module _ {C : Type 0} where
       → s.counts ≡ counts_held was → is ≡ closed_counters was broken (ltb k s.retired) aged
       → IsStep s at (PutBack k c broken) (Closed k grant n)
       (record s { latest = now; records = rs; gets = gs; counts = counts_held is })
-  meets_returned_closed {s} {at} {k} {c} {broken} {now} {birth} {aged} {grant} {rs} {n} {gs} was {is} fit told r closing granted rs_is were is_is =
+  meets_returned_closed {s} {at} {k} {c} {broken} {now} {birth} {aged} {grant} {rs} {n} {gs} was {is} fit outcome r closing granted rs_is were is_is =
       meets_by (λ t. (decided.closes t at k broken ≡ true) × IsEndGrant t k grant × (n ≡ slice_get t.gets.waiting 0) × (t.counts ≡ counts_held was))
       (λ t. record t {
         latest = max t.latest at;
         records = ended_records t k grant;
         gets = machine.after_notice n t.gets;
         counts = counts_held (closed_counters was broken (ltb k t.retired) (decided.is_old t at k));
-      }) s _ at (PutBack k c broken) (Closed k grant n) fit (closing_is broken r closing, granted, told.who, were)
-      (same_shown _ _ refl refl refl r.now_is refl rs_is told.after (ap counts_held (closed_is was broken r is_is)))
+      }) s _ at (PutBack k c broken) (Closed k grant n) fit (closing_is broken r closing, granted, outcome.who, were)
+      (same_shown _ _ refl refl refl r.now_is refl rs_is outcome.after (ap counts_held (closed_is was broken r is_is)))
       (λ l legal f known.
       let st = standing_is is_guarded (record_of l k) f in
       let ended = ended_shown l k st.0 grant st.1 (guarded_out st.0.place st.2) known.1 in (
@@ -302,33 +309,72 @@ module _ {C : Type 0} where
             ∙ ap (λ (b : Bool). counts_held (closed_counters was broken (ltb k (retired l)) b)) (old_shown l at k)),
       ))
 
+  -- a connection that leaves counts once
+  leaves_counted : (l : Ledger C) (was : Counters) → counts l ≡ counts_held was → record (counts l) { broken = (counts l).broken + 0; detached = detached l + 1 } ≡ counts_held (detached_counters was)
+  leaves_counted l was were = ap (λ (m : ℕ). record (counts l) { broken = m; detached = detached l + 1 }) (none_more ((counts l).broken)) ∙ ap (λ (x : Counts). record x { detached = x.detached + 1 }) were
+
   -- a guard leaves with its connection
   pub meets_detached : {s : StateView C} {at k now : ℕ} {grant : Grant} {rs : RecordsView C} {n : Option ℕ} {gs : GetsView} (was : Counters) {is : Counters} → now ≡ max s.latest at
       → IsFitting s (Detach k) → Notices s.gets n gs → IsEndGrant s k grant → rs ≡ ended_records s k grant → s.counts ≡ counts_held was → is ≡ detached_counters was
       → IsStep s at (Detach k) (Closed k grant n) (record s { latest = now; records = rs; gets = gs; counts = counts_held is })
-  meets_detached {s} {at} {k} {now} {grant} {rs} {n} {gs} was {is} now_is fit told granted rs_is were is_is =
+  meets_detached {s} {at} {k} {now} {grant} {rs} {n} {gs} was {is} now_is fit outcome granted rs_is were is_is =
       meets_by (λ t. IsEndGrant t k grant × (n ≡ slice_get t.gets.waiting 0) × (t.counts ≡ counts_held was))
       (λ t. record t { latest = max t.latest at; records = ended_records t k grant; gets = machine.after_notice n t.gets; counts = counts_held (detached_counters was) }) s _ at
-      (Detach k) (Closed k grant n) fit (granted, told.who, were)
-      (same_shown _ _ refl refl refl now_is refl rs_is told.after (ap counts_held is_is))
+      (Detach k) (Closed k grant n) fit (granted, outcome.who, were)
+      (same_shown _ _ refl refl refl now_is refl rs_is outcome.after (ap counts_held is_is))
       (λ l legal f known.
       let st = standing_is is_guarded (record_of l k) f in
       let ended = ended_shown l k st.0 grant st.1 (guarded_out st.0.place st.2) known.0 in (
         detaches ended.0 known.1,
-        same_shown _ _ refl refl refl refl refl ended.1 (gets_told l n known.1)
-            (ap (λ (m : ℕ). record (counts l) { broken = m; detached = detached l + 1 }) (none_more ((counts l).broken)) ∙ ap (λ (x : Counts). record x { detached = x.detached + 1 }) known.2),
+        same_shown _ _ refl refl refl refl refl ended.1 (gets_told l n known.1) (leaves_counted l was known.2),
       ))
 
-  -- what a state shows is what its ledger tells
+  -- ---- evict
+
+  -- the records once an idle one has ended, wherever it was in line
+  evicted_at : (l : Ledger C) (p k : ℕ) → stands is_idle (record_of l k) ≡ true
+      → shown_records (start l).first p (peak l) (with_record l k after_end) ≡ after_reaped k (shown_records (start l).first p (peak l) (records l))
+  evicted_at l p k f =
+      let st = standing_is is_idle (record_of l k) f in
+      let m = numbered.standing_found (records l) (start l).first k st.0 st.1 in
+      ap (shown_records (start l).first p (peak l)) (numbered.update_is (records l) (start l).first k after_end m.0 m.1)
+      ∙ idle-ended (start l).first p (peak l) (records l) k m.0 m.1 (ap (stands is_idle) m.2 ∙ st.2)
+      (numbered.in_order-change_off idle_at (records l) (start l).first k (after_end m.0) (λ q. refl) p)
+
+  -- an idle connection is evicted
+  pub meets_evicted : {s : StateView C} {at k now : ℕ} {mid rs : RecordsView C} {grant : Grant} {n : Option ℕ} {gs : GetsView} (was : Counters) {is : Counters} → now ≡ max s.latest at
+      → IsFitting s (Evict k) → Notices s.gets n gs → mid ≡ after_reaped k s.records → Grants s false mid grant rs → s.counts ≡ counts_held was → is ≡ detached_counters was
+      → IsStep s at (Evict k) (Closed k grant n) (record s { latest = now; records = rs; gets = gs; counts = counts_held is })
+  meets_evicted {s} {at} {k} {now} {mid} {rs} {grant} {n} {gs} was {is} now_is fit outcome ended granted were is_is =
+      meets_by (λ t. machine.IsGrant (after_reaped k t.records) (decided.want t.config t.handles (after_reaped k t.records)) grant
+      × (n ≡ slice_get t.gets.waiting 0) × (t.counts ≡ counts_held was))
+      (λ t. record t {
+        latest = max t.latest at;
+        records = machine.after_grant false grant (after_reaped k t.records);
+        gets = machine.after_notice n t.gets;
+        counts = counts_held (detached_counters was);
+      }) s _ at (Evict k) (Closed k grant n) fit (
+        subst (λ (t : RecordsView C). machine.IsGrant t (decided.want s.config s.handles t) grant) ended granted.granted,
+        outcome.who,
+        were,
+      )
+      (same_shown _ _ refl refl refl now_is refl (granted.after ∙ ap (machine.after_grant false grant) ended) outcome.after (ap counts_held is_is))
+      (λ l legal f known.
+      let later = evicted_at l (suc (position l)) k f ∙ ap (after_reaped k) (later_shown l) in (
+        evicts (want_is l (with_record l k after_end) grant _ (ended_before (position l) (start l).first k (records l) (entered_before l)) (evicted_at l (position l) k f) known.0) known.1,
+        same_shown _ _ refl refl refl refl refl (changed false l grant.count (with_record l k after_end) _ later) (gets_told l n known.1) (leaves_counted l was known.2),
+      ))
+
+  -- what a state shows is what its ledger says
   pub figures_told : (s : StateView C) (l : Ledger C) → Represents l s → record { connections = s.records.conns; idle = length s.records.idle; counts = s.counts } ≡ figures l
   figures_told s l means =
-      let told : Figures = record { connections = conns_of (records l); idle = length (idle l); counts = counts l } in
+      let outcome : Figures = record { connections = conns_of (records l); idle = length (idle l); counts = counts l } in
       ap (λ (t : StateView C). record { connections = t.records.conns; idle = length t.records.idle; counts = t.counts }) (sym means)
       ∙ ap (λ (n : ℕ). record { connections = conns_of (records l); idle = n; counts = counts l }) (idle_tally l)
 
   -- ---- try
 
-  -- what the counters keep of the waits is what a ledger tells of them
+  -- what the counters keep of the waits is what a ledger says of them
   pub same_micros : (l : Ledger C) (was : Counters) → counts l ≡ counts_held was → wait_micros l ≡ was.wait_micros
   same_micros l was were = omega (arith, ap (λ (x : Counts). x.wait_time) were)
 
@@ -395,15 +441,15 @@ module _ {C : Type 0} where
   abbrev left_shown : (l : Ledger C) (b : Bool) → RecordsView C
   left_shown l b = let rs : List (Numbered (Standing C)) = cond b (shut (records l)) (records l) in shown_records (start l).first (suc (position l)) (max (peak l) (conns_of rs + approved_of rs)) rs
 
-  -- what the code knows when one is added that is not broken, and there is room
+  -- what the code knows when one is added that is not broken, below `max_size`
   pub record Adds (s : StateView C) (c : C) : Type 0 where
     pub fit : IsFitting s (Add c false)
     pub room : s.records.conns + s.records.approved ≢ s.config.max_size
 
-  pub has_room : {s t : StateView C} {c : C} {used : ℕ} → s ≡ t → IsFitting t (Add c false) → used ≡ s.records.conns + s.records.approved → used ≢ s.config.max_size → Adds s c
-  has_room {c = c} is fit used_is room = record { fit = fits_view (Add c false) is fit; room = λ e. room (used_is ∙ e) }
+  pub has_capacity : {s t : StateView C} {c : C} {used : ℕ} → s ≡ t → IsFitting t (Add c false) → used ≡ s.records.conns + s.records.approved → used ≢ s.config.max_size → Adds s c
+  has_capacity {c = c} is fit used_is room = record { fit = fits_view (Add c false) is fit; room = λ e. room (used_is ∙ e) }
 
-  -- ---- the steps, where the moment of the event is told
+  -- ---- the steps, with the moment of the event
 
   module _ {s : StateView C} {at now : ℕ} (now_is : now ≡ max s.latest at) where
     -- an event that changes the latest moment alone
@@ -482,7 +528,7 @@ module _ {C : Type 0} where
         → rs ≡ machine.after_entry true k (record { place = Idle c; birth = now; entered = now }) s.records → Notices s.gets n gs
         → new ≡ record s.counts { created = s.counts.created + 1 }
         → IsStep s at (Opened k c) (Entered k n) (record s { latest = now; records = rs; gets = gs; counts = new })
-    meets_opened {k} c {rs} {n} {gs} {new} fit in_time rs_is told new_is =
+    meets_opened {k} c {rs} {n} {gs} {new} fit in_time rs_is outcome new_is =
         meets_by (λ t. (decided.comes_late t k ≡ false) × (n ≡ slice_get t.gets.waiting 0))
         (λ t. record t {
           latest = max t.latest at;
@@ -490,8 +536,8 @@ module _ {C : Type 0} where
           gets = machine.after_notice n t.gets;
           counts = record t.counts { created = t.counts.created + 1 };
         }) s _ at (Opened k c) (Entered k n) fit
-        (in_time, told.who)
-        (same_shown _ _ refl refl refl now_is refl (rs_is ∙ ap (λ (m : ℕ). machine.after_entry true k (record { place = Idle c; birth = m; entered = m }) s.records) now_is) told.after new_is)
+        (in_time, outcome.who)
+        (same_shown _ _ refl refl refl now_is refl (rs_is ∙ ap (λ (m : ℕ). machine.after_entry true k (record { place = Idle c; birth = m; entered = m }) s.records) now_is) outcome.after new_is)
         (λ l legal f known.
         let st = standing_is is_claimed (record_of l k) f in
         let some : 1 ≤ approved_of (records l) = claimed_counted l k st.0 st.1 (claimed_is st.0.place st.2) in
@@ -542,8 +588,8 @@ module _ {C : Type 0} where
         (λ l legal f known. (begin_exhausted known, refl, refl))
 
     pub meets_state : {f : Figures} → ((l : Ledger C) → Represents l s → f ≡ figures l) → IsStep s at State (ShownFigures f) (record s { latest = now })
-    meets_state {f} told = meets_quiet (λ t. (l : Ledger C) → Represents l t → f ≡ figures l) State (ShownFigures f)
-        (λ l legal means. refl) (λ l means. told l (beside l means)) refl refl (λ l. (refl, refl, refl, refl))
+    meets_state {f} outcome = meets_quiet (λ t. (l : Ledger C) → Represents l t → f ≡ figures l) State (ShownFigures f)
+        (λ l legal means. refl) (λ l means. outcome l (beside l means)) refl refl (λ l. (refl, refl, refl, refl))
         (λ l legal fit known. (subst (λ (x : Figures). Row l at State (ShownFigures x)) (sym (known l refl)) shows, refl, refl))
 
     pub meets_served : {g k : ℕ} {grant : Grant} {o : Option Getting} {since : Option ℕ} {rs : RecordsView C} {gs : GetsView} (was : Counters) {is : Counters}
@@ -726,15 +772,15 @@ module _ {C : Type 0} where
     pub meets_added : {k : ℕ} {c : C} {rs : RecordsView C} {n : Option ℕ} {gs : GetsView} → Adds s c
         → Notices s.gets n gs → s.records.next < end_of_numbers → k ≡ s.records.next → rs ≡ machine.with_peak (machine.after_birth c now s.records)
         → IsStep s at (Add c false) (Added k n) (record s { latest = now; records = rs; gets = gs })
-    meets_added {k} {c} {rs} {n} {gs} h told few k_is rs_is =
+    meets_added {k} {c} {rs} {n} {gs} h outcome few k_is rs_is =
         meets_by (λ t. (t.records.conns + t.records.approved ≢ t.config.max_size) × (t.records.next < end_of_numbers) × (k ≡ t.records.next)
         × (n ≡ slice_get t.gets.waiting 0)) (λ t. record
         t {
           latest = max t.latest at;
           records = machine.with_peak (machine.after_birth c (max t.latest at) t.records);
           gets = machine.after_notice n t.gets;
-        }) s _ at (Add c false) (Added k n) h.fit (h.room, few, k_is, told.who)
-        (same_shown _ _ refl refl refl now_is refl (rs_is ∙ ap (λ (m : ℕ). machine.with_peak (machine.after_birth c m s.records)) now_is) told.after refl)
+        }) s _ at (Add c false) (Added k n) h.fit (h.room, few, k_is, outcome.who)
+        (same_shown _ _ refl refl refl now_is refl (rs_is ∙ ap (λ (m : ℕ). machine.with_peak (machine.after_birth c m s.records)) now_is) outcome.after refl)
         (λ l legal f known. (
           adds known.0 known.1 known.2 known.3,
           same_shown _ _ refl refl refl refl refl

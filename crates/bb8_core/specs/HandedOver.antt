@@ -3,18 +3,19 @@ use Rattle.std.specs.Prelude.{◌≡◌, ℕ, Option, Some, None}
 use Rattle.bb8_tables.specs.declared.keys.GetKey.{GetKey}
 use Rattle.bb8_core.specs.declared.answers.TryAnswer.{TryAnswer}
 use Rattle.bb8_core.specs.StepAnswers.{answer_of_try, HandsOut}
-use Rattle.bb8_core.specs.StateView.{StateView, Represents, Meets, Lends, Searches}
+use Rattle.bb8_core.specs.StepBounds.{goes_out, IsBounded}
+use Rattle.bb8_core.specs.StateView.{StateView, Represents, Steps}
 use Rattle.bb8_ledger.specs.Acts.{Act, Try}
 use Rattle.bb8_ledger.specs.Answers.{Answer}
 use Rattle.bb8_ledger.specs.Ledger.{Ledger, Later, notified}
 use Rattle.bb8_ledger.specs.Table.{IsLegal}
-use Rattle.bb8_ledger.specs.Handed.{told_by, brought_by, GoesWith, IsPrompt}
+use Rattle.bb8_ledger.specs.Handed.{notified_by, brought_by, GoesWith, IsPrompt}
 
 module _ {C : Type 0} where
   -- the try of the notified get; nothing changes if there is none
   abbrev pub Follows : StateView C → ℕ → Option GetKey → Option (TryAnswer C) → StateView C → Type 0
   Follows old at None None new = new ≡ old
-  Follows old at (Some g) (Some tried) new = Meets old at (Try g.number) (answer_of_try tried) new × HandsOut old tried
+  Follows old at (Some g) (Some tried) new = Steps old at (Try g.number) (answer_of_try tried) new × HandsOut old tried
   Follows old at _ _ new = ⊥
 
   -- An event and the try of a get, on each legal ledger that the state represents and in which no
@@ -25,28 +26,28 @@ module _ {C : Type 0} where
 
   -- an event that notified a get, and at once that get's try: two steps, with a state between them
   abbrev pub StepThenTry : StateView C → ℕ → Act C → Answer → TryAnswer C → StateView C → Type 0
-  StepThenTry old at e a tried new = (g : ℕ) × (told_by a ≡ Some g) × (between : StateView C) × Meets old at e a between
-      × Meets between at (Try g) (answer_of_try tried) new × HandsOut between tried × HandsOn old at e a g (answer_of_try tried)
+  StepThenTry old at e a tried new = (g : ℕ) × (notified_by a ≡ Some g) × (between : StateView C) × Steps old at e a between
+      × Steps between at (Try g) (answer_of_try tried) new × HandsOut between tried × HandsOn old at e a g (answer_of_try tried)
 
   -- A step with hand-off: its event notified no get, or it is the event and the try of the get that
   -- it notified.
   abbrev pub StepsAndTries : Option (TryAnswer C) → StateView C → ℕ → Act C → Answer → StateView C → Type 0
-  StepsAndTries None old at e a new = Meets old at e a new × (told_by a ≡ None)
+  StepsAndTries None old at e a new = Steps old at e a new × (notified_by a ≡ None)
   StepsAndTries (Some tried) old at e a new = StepThenTry old at e a tried new
 
   -- If each notified get has tried at once in a history of the state, this still holds after the
   -- step and the try that followed.
   abbrev pub StaysPrompt : Option (TryAnswer C) → StateView C → ℕ → Act C → Answer → Type 0
   StaysPrompt None old at e a = (l : Ledger C) → IsLegal l → Represents l old → IsPrompt l → IsPrompt (Later l at e a)
-  StaysPrompt (Some tried) old at e a = (g : ℕ) × (told_by a ≡ Some g) × ((l : Ledger C) → IsLegal l → Represents l old → IsPrompt l
+  StaysPrompt (Some tried) old at e a = (g : ℕ) × (notified_by a ≡ Some g) × ((l : Ledger C) → IsLegal l → Represents l old → IsPrompt l
       → IsPrompt (Later (Later l at e a) at (Try g) (answer_of_try tried)))
 
-  -- a try reads at most four entries, and searches at most twice
+  -- the bounds of the try, if there is one
   abbrev pub TriesFew : Option (TryAnswer C) → StateView C → StateView C → Type 0
   TriesFew None old new = new ≡ old
-  TriesFew (Some tried) old new = Lends 4 old new × Searches 2 new
+  TriesFew (Some tried) old new = IsBounded (goes_out tried) 0 4 2 old new
 
-  -- A step with hand-off reads at most four entries and searches at most `most` times; then comes
-  -- its try.
-  abbrev pub LooksFew : ℕ → Option (TryAnswer C) → StateView C → StateView C → Type 0
-  LooksFew most tried old new = (between : StateView C) × Lends 4 old between × Searches most between × TriesFew tried between new
+  -- The bounds of a step with hand-off: its event returns this many connections, and searches
+  -- at most `more` times; then comes its try.
+  abbrev pub AreBounded : ℕ → ℕ → Option (TryAnswer C) → StateView C → StateView C → Type 0
+  AreBounded back more tried old new = (between : StateView C) × IsBounded 0 back 4 more old between × TriesFew tried between new

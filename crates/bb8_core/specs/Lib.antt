@@ -6,7 +6,7 @@ pub mod HandedOver
 pub mod Closings
 pub mod Pool
 pub mod Run
-pub mod Parts
+pub mod StepBounds
 pub mod Endings
 pub use Rattle.bb8_types.specs.Settings
 pub use Rattle.bb8_types.specs.Figures

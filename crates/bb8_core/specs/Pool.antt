@@ -8,8 +8,8 @@ use Rattle.bb8_core.specs.StateView.{StateView}
 use Rattle.bb8_tables.specs.Counted.{counts_held}
 
 -- whether exactly the ages above this one reach a limit, up to the last moment
-abbrev pub IsGreatestAge : Option ℕ → ℕ → Type 0
-IsGreatestAge limit greatest = (age : ℕ) → age ≤ last_moment → ltb greatest age ≡ is_past limit age
+abbrev pub IsMaxAge : Option ℕ → ℕ → Type 0
+IsMaxAge limit greatest = (age : ℕ) → age ≤ last_moment → ltb greatest age ≡ is_past limit age
 
 -- whether exactly the connections with numbers below this one are closed when they are opened or
 -- returned although they are neither broken nor too old
@@ -18,7 +18,7 @@ ClosesBelow handles retired below = (k : ℕ) → k < end_of_numbers → ltb k b
 
 -- the meaning of the fields that save a step work
 pub record SavesWork (lifetime : Option ℕ) (greatest handles retired below : ℕ) : Type 0 where
-  pub age : IsGreatestAge lifetime greatest
+  pub age : IsMaxAge lifetime greatest
   pub closed : ClosesBelow handles retired below
 
 module _ {C A : Type 0} where
@@ -32,5 +32,5 @@ module _ {C A : Type 0} where
     records = a.records;
     gets = a.gets;
     counts = counts_held a.counters;
-    lent = a.lendings;
+    reads = a.accesses;
   }

@@ -8,8 +8,9 @@
 ghost use Rattle.std.specs.Prelude.{None, Some, IfSome, IfOk};
 ghost use Rattle.bb8_ledger.specs.Acts as acts;
 ghost use Rattle.bb8_core.specs.Unfit.{Stepped, OrComesBack, answered};
-ghost use Rattle.bb8_core.specs.HandedOver.{StepsAndTries, Follows, StaysPrompt, TriesFew, LooksFew};
-ghost use Rattle.bb8_core.specs.StateView.{IsFitting, IsWithinLimits};
+ghost use Rattle.bb8_core.specs.HandedOver.{StepsAndTries, Follows, StaysPrompt, TriesFew, AreBounded};
+ghost use Rattle.bb8_core.specs.StepBounds.{come_back};
+ghost use Rattle.bb8_core.specs.StateView.{IsFitting};
 ghost use Rattle.bb8_core.specs.StepAnswers.{answer_of_checked_err, answer_of_give_up, answer_of_put_back, answer_of_detach, answer_of_opened, answer_of_add, reason_of, GivesBack, GivesBackInvalid, GivesBackHeld, HandsBack, Refuses};
 
 use crate::api::Moment;
@@ -22,14 +23,12 @@ use crate::internals::{
 #[derive(Drop)]
 pub struct HandedOver<R, C> {
     /// The result of the step.
-    pub told: R,
+    pub outcome: R,
     /// The result of the notified get's try, if a get was notified.
     pub tried: Option<TryAnswer<C>>,
 }
 
-/// Makes the try of the notified get, if there is one. It is not inlined, because the steps around
-/// it are.
-#[inline(never)]
+/// Makes the try of the notified get, if there is one.
 fn try_of<C: Drop, A>(
     pool: &mut PoolInternals<C, A>,
     at: Moment,
@@ -39,7 +38,6 @@ fn try_of<C: Drop, A>(
     ensures follows { Follows pool.old at.0 notified result pool.new }
     ensures few { TriesFew result pool.old pool.new }
 {
-    pool.limits();
     match notified {
         None => None,
         Some(get) => match pool.try_get(at, get) {
@@ -55,13 +53,13 @@ macro_rules! hand_over {
     ($pool:ident, $at:ident, $step:expr) => {
         match $step {
             Err(back) => HandedOver {
-                told: Err(back),
+                outcome: Err(back),
                 tried: None,
             },
-            Ok(told) => {
-                let tried = try_of($pool, $at, told.notified());
+            Ok(outcome) => {
+                let tried = try_of($pool, $at, outcome.notified());
                 HandedOver {
-                    told: Ok(told),
+                    outcome: Ok(outcome),
                     tried,
                 }
             }
@@ -70,7 +68,6 @@ macro_rules! hand_over {
 }
 
 /// Reports that the check of a get failed, with hand-off.
-#[inline(always)]
 pub fn checked_err<C: Drop, A>(
     pool: &mut PoolInternals<C, A>,
     at: Moment,
@@ -80,18 +77,16 @@ pub fn checked_err<C: Drop, A>(
     hint: usize,
 ) -> HandedOver<Result<CheckedErrAnswer<C>, C>, C>
     ensures step { Stepped (StepsAndTries result.tried) answer_of_checked_err pool.old at.0
-        (acts.CheckedErr get.number broken) result.told pool.new }
-    ensures connection { OrComesBack GivesBackInvalid conn result.told }
+        (acts.CheckedErr get.number broken) result.outcome pool.new }
+    ensures connection { OrComesBack GivesBackInvalid conn result.outcome }
     ensures order { StaysPrompt result.tried pool.old at.0
-        (acts.CheckedErr get.number broken) (answered answer_of_checked_err result.told) }
-    ensures examined { LooksFew 3 result.tried pool.old pool.new }
-    ensures limits { IsWithinLimits pool.old }
+        (acts.CheckedErr get.number broken) (answered answer_of_checked_err result.outcome) }
+    ensures bounds { AreBounded (come_back result.outcome) 3 result.tried pool.old pool.new }
 {
     hand_over!(pool, at, pool.checked_err(at, get, conn, broken, hint))
 }
 
 /// Ends a get that holds nothing and is not served, with hand-off.
-#[inline(always)]
 pub fn give_up<C: Drop, A>(
     pool: &mut PoolInternals<C, A>,
     at: Moment,
@@ -100,18 +95,16 @@ pub fn give_up<C: Drop, A>(
     broken: bool,
 ) -> HandedOver<Result<GiveUpAnswer<C>, Unfit>, C>
     ensures step { Stepped (StepsAndTries result.tried) answer_of_give_up pool.old at.0
-        (acts.GiveUp get.number (reason_of reason) None broken) result.told pool.new }
-    ensures connection { IfOk result.told (GivesBackHeld None) }
+        (acts.GiveUp get.number (reason_of reason) None broken) result.outcome pool.new }
+    ensures connection { IfOk result.outcome (GivesBackHeld None) }
     ensures order { StaysPrompt result.tried pool.old at.0
-        (acts.GiveUp get.number (reason_of reason) None broken) (answered answer_of_give_up result.told) }
-    ensures examined { LooksFew 1 result.tried pool.old pool.new }
-    ensures limits { IsWithinLimits pool.old }
+        (acts.GiveUp get.number (reason_of reason) None broken) (answered answer_of_give_up result.outcome) }
+    ensures bounds { AreBounded 0 1 result.tried pool.old pool.new }
 {
     hand_over!(pool, at, pool.give_up(at, get, reason, broken))
 }
 
 /// Ends a get that holds this connection and is not served, with hand-off.
-#[inline(always)]
 pub fn give_back<C: Drop, A>(
     pool: &mut PoolInternals<C, A>,
     at: Moment,
@@ -122,12 +115,11 @@ pub fn give_back<C: Drop, A>(
     hint: usize,
 ) -> HandedOver<Result<GiveUpAnswer<C>, C>, C>
     ensures step { Stepped (StepsAndTries result.tried) answer_of_give_up pool.old at.0
-        (acts.GiveUp get.number (reason_of reason) (Some conn) broken) result.told pool.new }
-    ensures connection { OrComesBack (λ c. GivesBackHeld (Some c)) conn result.told }
+        (acts.GiveUp get.number (reason_of reason) (Some conn) broken) result.outcome pool.new }
+    ensures connection { OrComesBack (λ c. GivesBackHeld (Some c)) conn result.outcome }
     ensures order { StaysPrompt result.tried pool.old at.0
-        (acts.GiveUp get.number (reason_of reason) (Some conn) broken) (answered answer_of_give_up result.told) }
-    ensures examined { LooksFew 3 result.tried pool.old pool.new }
-    ensures limits { IsWithinLimits pool.old }
+        (acts.GiveUp get.number (reason_of reason) (Some conn) broken) (answered answer_of_give_up result.outcome) }
+    ensures bounds { AreBounded (come_back result.outcome) 3 result.tried pool.old pool.new }
 {
     hand_over!(
         pool,
@@ -137,7 +129,6 @@ pub fn give_back<C: Drop, A>(
 }
 
 /// Takes back a connection that a guard holds, with hand-off.
-#[inline(always)]
 pub fn put_back<C: Drop, A>(
     pool: &mut PoolInternals<C, A>,
     at: Moment,
@@ -146,35 +137,31 @@ pub fn put_back<C: Drop, A>(
     broken: bool,
 ) -> HandedOver<Result<PutBackAnswer<C>, C>, C>
     ensures step { Stepped (StepsAndTries result.tried) (answer_of_put_back key.number) pool.old at.0
-        (acts.PutBack key.number conn broken) result.told pool.new }
-    ensures connection { OrComesBack GivesBack conn result.told }
+        (acts.PutBack key.number conn broken) result.outcome pool.new }
+    ensures connection { OrComesBack GivesBack conn result.outcome }
     ensures order { StaysPrompt result.tried pool.old at.0
-        (acts.PutBack key.number conn broken) (answered (answer_of_put_back key.number) result.told) }
-    ensures examined { LooksFew 2 result.tried pool.old pool.new }
-    ensures limits { IsWithinLimits pool.old }
+        (acts.PutBack key.number conn broken) (answered (answer_of_put_back key.number) result.outcome) }
+    ensures bounds { AreBounded (come_back result.outcome) 2 result.tried pool.old pool.new }
 {
     hand_over!(pool, at, pool.put_back(at, key, conn, broken))
 }
 
 /// Detaches a connection that a guard holds, with hand-off.
-#[inline(always)]
 pub fn detach<C: Drop, A>(
     pool: &mut PoolInternals<C, A>,
     at: Moment,
     key: Key,
 ) -> HandedOver<Result<DetachAnswer, Unfit>, C>
     ensures step { Stepped (StepsAndTries result.tried) (answer_of_detach key.number) pool.old at.0
-        (acts.Detach key.number) result.told pool.new }
+        (acts.Detach key.number) result.outcome pool.new }
     ensures order { StaysPrompt result.tried pool.old at.0
-        (acts.Detach key.number) (answered (answer_of_detach key.number) result.told) }
-    ensures examined { LooksFew 2 result.tried pool.old pool.new }
-    ensures limits { IsWithinLimits pool.old }
+        (acts.Detach key.number) (answered (answer_of_detach key.number) result.outcome) }
+    ensures bounds { AreBounded (come_back result.outcome) 2 result.tried pool.old pool.new }
 {
     hand_over!(pool, at, pool.detach(at, key))
 }
 
 /// Reports that the attempt of a claimed approval succeeded, with hand-off.
-#[inline(always)]
 pub fn opened<C: Drop, A>(
     pool: &mut PoolInternals<C, A>,
     at: Moment,
@@ -182,18 +169,16 @@ pub fn opened<C: Drop, A>(
     conn: C,
 ) -> HandedOver<Result<OpenedAnswer<C>, C>, C>
     ensures step { Stepped (StepsAndTries result.tried) (answer_of_opened key.number) pool.old at.0
-        (acts.Opened key.number conn) result.told pool.new }
-    ensures connection { OrComesBack HandsBack conn result.told }
+        (acts.Opened key.number conn) result.outcome pool.new }
+    ensures connection { OrComesBack HandsBack conn result.outcome }
     ensures order { StaysPrompt result.tried pool.old at.0
-        (acts.Opened key.number conn) (answered (answer_of_opened key.number) result.told) }
-    ensures examined { LooksFew 1 result.tried pool.old pool.new }
-    ensures limits { IsWithinLimits pool.old }
+        (acts.Opened key.number conn) (answered (answer_of_opened key.number) result.outcome) }
+    ensures bounds { AreBounded 0 1 result.tried pool.old pool.new }
 {
     hand_over!(pool, at, pool.opened(at, key, conn))
 }
 
 /// Adds a connection, with hand-off.
-#[inline(always)]
 pub fn add<C: Drop, A>(
     pool: &mut PoolInternals<C, A>,
     at: Moment,
@@ -201,12 +186,11 @@ pub fn add<C: Drop, A>(
     broken: bool,
 ) -> HandedOver<Result<AddAnswer<C>, C>, C>
     ensures step { Stepped (StepsAndTries result.tried) answer_of_add pool.old at.0
-        (acts.Add conn broken) result.told pool.new }
-    ensures connection { OrComesBack Refuses conn result.told }
+        (acts.Add conn broken) result.outcome pool.new }
+    ensures connection { OrComesBack Refuses conn result.outcome }
     ensures order { StaysPrompt result.tried pool.old at.0
-        (acts.Add conn broken) (answered answer_of_add result.told) }
-    ensures examined { LooksFew 0 result.tried pool.old pool.new }
-    ensures limits { IsWithinLimits pool.old }
+        (acts.Add conn broken) (answered answer_of_add result.outcome) }
+    ensures bounds { AreBounded 0 0 result.tried pool.old pool.new }
 {
     hand_over!(pool, at, pool.add(at, conn, broken))
 }

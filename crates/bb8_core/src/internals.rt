@@ -1,14 +1,15 @@
 //! The state that a pool keeps behind its lock.
-ghost use Rattle.std.specs.Prelude.{◌≡◌, ◌+◌, ◌≤◌, IfSome, IfNone, IfOk, IfErr, true, false, None, Some};
+ghost use Rattle.std.specs.Prelude.{◌≡◌, ◌+◌, ◌≤◌, IfSome, IfNone, IfOk, IfErr, is_some, true, false, None, Some};
 ghost use Rattle.bb8_ledger.specs.Acts as acts;
 ghost use Rattle.bb8_ledger.specs.Answers as answers;
-ghost use Rattle.bb8_tables.specs.Lent.{AddsLent};
+ghost use Rattle.bb8_tables.specs.AccessCount.{AddsReads};
 ghost use Rattle.bb8_core.specs.Decided as decided;
 ghost use Rattle.bb8_types.specs.Grants as grants;
 ghost use Rattle.bb8_types.specs.Settings.{settings_of, is_lawful};
 ghost use Rattle.bb8_core.specs.Run.{opening};
-ghost use Rattle.bb8_core.specs.Parts.{come_back, goes_out, starts_out, IsCounted};
-ghost use Rattle.bb8_core.specs.StateView.{Represents, Meets, Lends, Searches, IsAsBefore, IsFitting, IsWithinLimits};
+ghost use Rattle.bb8_types.specs.Numbered.{one};
+ghost use Rattle.bb8_core.specs.StepBounds.{come_back, goes_out, if_fits, starts_out, IsBounded};
+ghost use Rattle.bb8_core.specs.StateView.{Represents, Steps, IsAsBefore, IsFitting, IsWithinLimits};
 ghost use Rattle.bb8_core.specs.Unfit.{Stepped, OrComesBack};
 ghost use Rattle.bb8_core.specs.StepAnswers.{answer_of_begin, answer_of_try, answer_of_checked_ok, answer_of_checked_err, reason_of, answer_of_give_up, answer_of_put_back, answer_of_detach, answer_of_opened, answer_of_failed, answer_of_add, HandsOut, ServesAtOnce, NotAtOnce, Starts, GivesBack, GivesBackInvalid, GivesBackHeld, HandsBack, Refuses};
 ghost use Rattle.bb8_types.specs.declared.standing.Holder.TheVariants.{Guard, Get};
@@ -21,22 +22,22 @@ mod reaps;
 
 pub use crate::answers::{
     AddAnswer, AtOnce, BeginAnswer, CheckedErrAnswer, CheckedOkAnswer, ClaimAnswer, DetachAnswer,
-    FailedAnswer, GiveUpAnswer, JoinAnswer, LeaveAnswer, Looked, OpenedAnswer, PutBackAnswer,
-    ReapAnswer, Started, TryAnswer, Unfit,
+    EvictAnswer, FailedAnswer, GiveUpAnswer, JoinAnswer, LeaveAnswer, Looked, OpenedAnswer,
+    PutBackAnswer, ReapAnswer, Started, TryAnswer, Unfit,
 };
 pub use bb8_tables::closed::{Closed, ClosedList};
 use bb8_tables::counters::Counters;
 use bb8_tables::gets::{Gets, first_wait, is_notified, is_trying, is_unnotified};
 pub use bb8_tables::keys::{GetKey, Key};
 use bb8_tables::records::Records;
-use bb8_tables::{LatestLendings, Lendings, UncountedAccess};
+use bb8_tables::{AccessCounter, LatestAccesses, UncountedAccess};
 use bb8_types::api::{Config, Moment};
 pub use bb8_types::grants::Grant;
 pub use bb8_types::reasons::Reason;
 use bb8_types::standing::{GetPlace, Holder};
 use decided::{
-    checks_first, close_and_grant, due_waiting, either, greatest_age, holder, is_doubtful,
-    is_expired, notify_next_if, want, want_with_handle,
+    checks_first, close_and_grant, due_waiting, either, holder, is_doubtful, is_expired, max_age,
+    notify_next_if, want, want_with_handle,
 };
 use std::alloc::Global;
 use std::marker::Model;
@@ -47,6 +48,9 @@ use std::marker::Model;
 ///
 /// Each value represents some legal ledger, so it keeps the limits: see `limits`.
 ///
+/// A step has the clauses `step`, its event and result, and `bounds`: how many connections go out,
+/// how many are returned, the most table entries that it reads, and the most searches.
+///
 /// Steps are in an impl for every `A`, so they cannot use `asking` to read a table uncounted. The
 /// queries can: they are in an impl for `UncountedAccess`.
 #[derive(Drop)]
@@ -54,7 +58,7 @@ pub struct PoolInternals<C, A = UncountedAccess> {
     config: Config,
     // The greatest age, in nanoseconds, that does not reach `max_lifetime`. Each return compares an
     // age with it.
-    greatest_age: u64,
+    max_age: u64,
     // Numbers below this one are retired.
     retired: u64,
     // Connections with numbers below this one are closed when they are opened or returned: the
@@ -65,7 +69,7 @@ pub struct PoolInternals<C, A = UncountedAccess> {
     records: Records<C>,
     gets: Gets,
     counters: Counters,
-    lendings: LatestLendings,
+    accesses: LatestAccesses,
     asking: A,
 }
 
@@ -81,7 +85,7 @@ impl<C, A> Model for PoolInternals<C, A> {
     ghost view = { view_of };
 
     ghost invariant = { λ a. HasLedger (view_of a)
-        × SavesWork (settings_of a.config).max_lifetime a.greatest_age a.handles a.retired
+        × SavesWork (settings_of a.config).max_lifetime a.max_age a.handles a.retired
         a.closed_below };
 }
 
@@ -102,7 +106,7 @@ impl<C: Drop> PoolInternals<C> {
     {
         let (records, asking) = Records::new(alloc, first_number);
         PoolInternals {
-            greatest_age: greatest_age(config.max_lifetime),
+            max_age: max_age(config.max_lifetime),
             config,
             retired: 0,
             closed_below: 0,
@@ -111,7 +115,7 @@ impl<C: Drop> PoolInternals<C> {
             records,
             gets: Gets::new(alloc, first_get),
             counters: Counters::NONE,
-            lendings: asking.latest(),
+            accesses: asking.latest(),
             asking,
         }
     }
@@ -121,18 +125,15 @@ impl<C: Drop, A> PoolInternals<C, A> {
     /// Begins a get. Memory is requested only if as many gets are alive as ever were. If no handle
     /// is alive, nothing changes.
     pub fn begin(&mut self, at: Moment) -> Result<BeginAnswer, Unfit>
-        ensures step { Stepped Meets answer_of_begin self.old at.0 acts.Begin result self.new }
-        ensures examined { Lends 4 self.old self.new }
-        ensures searched { Searches 0 self.new }
-        ensures limits { IsWithinLimits self.old }
+        ensures step { Stepped Steps answer_of_begin self.old at.0 acts.Begin result self.new }
+        ensures bounds { IsBounded 0 0 4 0 self.old self.new }
     {
-        self.limits();
         if !self.fits_begin() {
-            self.lendings.end_unfit(Lendings::none());
+            self.accesses.end_unfit(AccessCounter::none());
             return Err(Unfit);
         }
         self.latest = self.latest.max(at.0);
-        self.lendings.end(Lendings::none());
+        self.accesses.end(AccessCounter::none());
         if !self.gets.has_number() {
             return Ok(BeginAnswer::Exhausted);
         }
@@ -150,21 +151,20 @@ impl<C: Drop, A> PoolInternals<C, A> {
     /// Otherwise it returns None and changes nothing: that connection must be checked, none is
     /// idle, no number is left, or as many gets are alive as ever were. While no handle is alive,
     /// none is idle.
+    // Saves 49 instructions of an unchecked pair.
     #[inline(always)]
     pub fn serve_at_once(&mut self, at: Moment) -> Option<AtOnce<C>>
         ensures some { IfSome result (λ served. ServesAtOnce self.old at.0 served self.new) }
         ensures none { IfNone result (IsAsBefore self.old self.new) }
         ensures cause { IfNone result (NotAtOnce self.old at.0) }
-        ensures counts { IfSome result (λ served. IsCounted self.old 1 0 self.new) }
-        ensures examined { Lends 4 self.old self.new }
-        ensures searched { Searches 0 self.new }
+        ensures bounds { IsBounded (one (is_some result)) 0 4 0 self.old self.new }
         ensures limits { IsWithinLimits self.old }
     {
         self.limits();
-        match self.serve_first(at, Lendings::none()) {
+        match self.serve_first(at, AccessCounter::none()) {
             Ok(served) => Some(served),
-            Err(lendings) => {
-                self.lendings.end(lendings);
+            Err(accesses) => {
+                self.accesses.end(accesses);
                 None
             }
         }
@@ -172,31 +172,35 @@ impl<C: Drop, A> PoolInternals<C, A> {
 
     /// Does what `serve_at_once` does, in a step with this access counter. If nothing changes, it
     /// returns the counter.
+    // Saves 53 instructions of an unchecked pair.
     #[inline(always)]
-    fn serve_first(&mut self, at: Moment, mut lendings: Lendings) -> Result<AtOnce<C>, Lendings>
+    fn serve_first(
+        &mut self,
+        at: Moment,
+        mut accesses: AccessCounter,
+    ) -> Result<AtOnce<C>, AccessCounter>
         ensures ok { IfOk result (λ served. ServesAtOnce self.old at.0 served self.new) }
-        ensures err { IfErr result (λ l. (self.new ≡ self.old) × AddsLent 1 0 lendings l) }
+        ensures err { IfErr result (λ l. (self.new ≡ self.old) × AddsReads 1 0 accesses l) }
         ensures cause { IfErr result (λ l. NotAtOnce self.old at.0) }
-        ensures counts { IfOk result (λ served. IsCounted self.old 1 0 self.new) }
-        ensures examined { IfOk result (λ served. Lends (lendings.lent + 2) self.old self.new) }
-        ensures searched { IfOk result (λ served. Searches lendings.searched self.new) }
+        ensures bounds { IfOk result (λ served.
+            IsBounded 1 0 (accesses.reads + 2) accesses.searched self.old self.new) }
     {
         let now = self.latest.max(at.0);
-        if checks_first(&self.config, &self.records, now, &mut lendings) {
-            return Err(lendings);
+        if checks_first(&self.config, &self.records, now, &mut accesses) {
+            return Err(accesses);
         }
-        if !self.gets.has_room() {
-            return Err(lendings);
+        if !self.gets.has_capacity() {
+            return Err(accesses);
         }
         // While no handle is alive, nothing is idle.
         if self.records.idle_connections() == 0 {
-            return Err(lendings);
+            return Err(accesses);
         }
         let strategy = self.config.queue_strategy;
-        match self.records.take(strategy, Holder::Guard, &mut lendings) {
-            None => Err(lendings),
+        match self.records.take(strategy, Holder::Guard, &mut accesses) {
+            None => Err(accesses),
             Some((key, conn)) => {
-                self.lendings.end(lendings);
+                self.accesses.end(accesses);
                 self.latest = self.latest.max(at.0);
                 let get = self.gets.begin_and_end();
                 self.counters.started += 1;
@@ -216,61 +220,38 @@ impl<C: Drop, A> PoolInternals<C, A> {
     /// Begins a get and lets it try, as `begin` and `try_get` would, in one step. A get that is
     /// served leaves no entry. Any other is added in its final state, without a lookup. If no
     /// handle is alive, nothing changes.
+    // Saves 37 instructions of a pair.
     #[inline(always)]
     pub fn start(&mut self, at: Moment) -> Result<Started<C>, Unfit>
-        ensures ok { IfOk result (λ told. Starts self.old at.0 told self.new) }
-        ensures err { IfErr result (λ u. Meets self.old at.0 acts.Begin answers.Unfit self.new
+        ensures ok { IfOk result (λ outcome. Starts self.old at.0 outcome self.new) }
+        ensures err { IfErr result (λ u. Steps self.old at.0 acts.Begin answers.Unfit self.new
             × IsAsBefore self.old self.new) }
-        ensures counts { IfOk result (λ told. IsCounted self.old (starts_out told) 0 self.new) }
-        ensures examined { Lends 4 self.old self.new }
-        ensures searched { Searches 0 self.new }
-        ensures limits { IsWithinLimits self.old }
+        ensures bounds { IsBounded (if_fits starts_out result) 0 4 0 self.old self.new }
     {
-        self.limits();
         if !self.fits_begin() {
-            self.lendings.end_unfit(Lendings::none());
+            self.accesses.end_unfit(AccessCounter::none());
             return Err(Unfit);
         }
-        if self.config.test_on_check_out {
-            return Ok(self.start_on(at, Lendings::none()));
-        }
-        match self.serve_first(at, Lendings::none()) {
-            Err(lendings) => Ok(self.start_on(at, lendings)),
-            Ok(
-                AtOnce {
-                    get,
-                    key,
-                    conn,
-                    grant,
-                },
-            ) => {
-                let get = GetKey {
-                    number: get,
-                    place: 0,
-                };
-                Ok(Started::Tried(get, TryAnswer::Served(key, conn, grant)))
-            }
-        }
+        Ok(self.start_fitting(at))
     }
 
-    /// Starts a get that may be checked, may wait, or needs memory, in a step with this access
-    /// counter.
+    /// Does what `start` does, while a handle is alive.
+    // Saves 51 instructions of a pair.
     #[inline(always)]
-    fn start_on(&mut self, at: Moment, mut lendings: Lendings) -> Started<C>
+    fn start_fitting(&mut self, at: Moment) -> Started<C>
         requires { IsFitting self.old acts.Begin }
         ensures step { Starts self.old at.0 result self.new }
-        ensures counts { IsCounted self.old (starts_out result) 0 self.new }
-        ensures examined { Lends (lendings.lent + 3) self.old self.new }
-        ensures searched { Searches lendings.searched self.new }
+        ensures bounds { IsBounded (starts_out result) 0 3 0 self.old self.new }
     {
+        let mut accesses = AccessCounter::none();
         let now = self.latest.max(at.0);
         self.latest = now;
         if !self.gets.has_number() {
-            self.lendings.end(lendings);
+            self.accesses.end(accesses);
             return Started::Exhausted;
         }
-        if !self.gets.make_room_for_one() {
-            self.lendings.end(lendings);
+        if !self.gets.reserve_one() {
+            self.accesses.end(accesses);
             return Started::Memory;
         }
         self.counters.started += 1;
@@ -278,15 +259,15 @@ impl<C: Drop, A> PoolInternals<C, A> {
             number: self.gets.next_number(),
             place: 0,
         };
-        let checked = checks_first(&self.config, &self.records, now, &mut lendings);
+        let checked = checks_first(&self.config, &self.records, now, &mut accesses);
         let strategy = self.config.queue_strategy;
         match self
             .records
-            .take(strategy, holder(checked, next), &mut lendings)
+            .take(strategy, holder(checked, next), &mut accesses)
         {
             None => {
-                let get = self.gets.bear_waiting(now, &mut lendings);
-                self.lendings.end(lendings);
+                let get = self.gets.bear_waiting(now, &mut accesses);
+                self.accesses.end(accesses);
                 let alive = self.gets.alive();
                 let due = due_waiting(&self.config, self.handles, &self.records, alive);
                 let grant = self.records.grant(due, false);
@@ -296,11 +277,11 @@ impl<C: Drop, A> PoolInternals<C, A> {
                 let wanted = want_with_handle(&self.config, &self.records);
                 let grant = self.records.grant(wanted, false);
                 if checked {
-                    let get = self.gets.bear_holding(key.number, &mut lendings);
-                    self.lendings.end(lendings);
+                    let get = self.gets.bear_holding(key.number, &mut accesses);
+                    self.accesses.end(accesses);
                     return Started::Tried(get, TryAnswer::Taken(key, conn, grant));
                 }
-                self.lendings.end(lendings);
+                self.accesses.end(accesses);
                 let _ = self.gets.begin_and_end();
                 self.counters.serve(None, now);
                 Started::Tried(next, TryAnswer::Served(key, conn, grant))
@@ -314,42 +295,39 @@ impl<C: Drop, A> PoolInternals<C, A> {
     /// If none is idle, the get waits from now on, and one approval is granted if there are more
     /// gets than open approvals. For a waiter that was not notified only the latest moment changes.
     /// Memory is requested only for approvals. If the get may not try, nothing changes.
+    // Saves 40 instructions of a waiting get.
     #[inline(always)]
     pub fn try_get(&mut self, at: Moment, get: GetKey) -> Result<TryAnswer<C>, Unfit>
-        ensures step { Stepped Meets answer_of_try
+        ensures step { Stepped Steps answer_of_try
             self.old at.0 (acts.Try get.number) result self.new }
         ensures connection { IfOk result (HandsOut self.old) }
-        ensures counts { IfOk result (λ told. IsCounted self.old (goes_out told) 0 self.new) }
-        ensures examined { Lends 4 self.old self.new }
-        ensures searched { Searches 2 self.new }
-        ensures limits { IsWithinLimits self.old }
+        ensures bounds { IsBounded (if_fits goes_out result) 0 4 2 self.old self.new }
     {
-        self.limits();
-        let mut lendings = Lendings::none();
-        let getting = self.gets.getting(get, &mut lendings);
+        let mut accesses = AccessCounter::none();
+        let getting = self.gets.getting(get, &mut accesses);
         if !is_trying(getting) {
-            self.lendings.end_unfit(lendings);
+            self.accesses.end_unfit(accesses);
             return Err(Unfit);
         }
         let now = self.latest.max(at.0);
         self.latest = now;
         if is_unnotified(getting) {
-            self.lendings.end(lendings);
+            self.accesses.end(accesses);
             let nothing = Grant::of_nothing(self.records.next_number());
             return Ok(TryAnswer::Waiting(nothing));
         }
-        let checked = checks_first(&self.config, &self.records, now, &mut lendings);
+        let checked = checks_first(&self.config, &self.records, now, &mut accesses);
         let strategy = self.config.queue_strategy;
         match self
             .records
-            .take(strategy, holder(checked, get), &mut lendings)
+            .take(strategy, holder(checked, get), &mut accesses)
         {
             None => {
                 let alive = self.gets.alive();
                 let due = due_waiting(&self.config, self.handles, &self.records, alive);
                 let grant = self.records.grant(due, false);
-                self.gets.wait(get, now, &mut lendings);
-                self.lendings.end(lendings);
+                self.gets.wait(get, now, &mut accesses);
+                self.accesses.end(accesses);
                 Ok(TryAnswer::Waiting(grant))
             }
             Some((key, conn)) => {
@@ -357,12 +335,12 @@ impl<C: Drop, A> PoolInternals<C, A> {
                 let grant = self.records.grant(wanted, false);
                 if checked {
                     self.gets
-                        .turn(get, GetPlace::Holding(key.number), &mut lendings);
-                    self.lendings.end(lendings);
+                        .turn(get, GetPlace::Holding(key.number), &mut accesses);
+                    self.accesses.end(accesses);
                     return Ok(TryAnswer::Taken(key, conn, grant));
                 }
-                self.gets.finish(get, &mut lendings);
-                self.lendings.end(lendings);
+                self.gets.finish(get, &mut accesses);
+                self.accesses.end(accesses);
                 self.counters.serve(first_wait(getting), now);
                 Ok(TryAnswer::Served(key, conn, grant))
             }
@@ -372,6 +350,7 @@ impl<C: Drop, A> PoolInternals<C, A> {
     /// Serves a get with the connection that it holds, because its check passed. A guard holds the
     /// connection from now on. `hint` is the index in its key; it may be stale, and changes no
     /// result. If the get holds none, nothing changes. The get is looked up once.
+    // Saves 28 instructions of a pair.
     #[inline(always)]
     pub fn checked_ok(
         &mut self,
@@ -379,18 +358,14 @@ impl<C: Drop, A> PoolInternals<C, A> {
         get: GetKey,
         hint: usize,
     ) -> Result<CheckedOkAnswer, Unfit>
-        ensures step { Stepped Meets (answer_of_checked_ok self.old.records.next)
+        ensures step { Stepped Steps (answer_of_checked_ok self.old.records.next)
             self.old at.0 (acts.CheckedOk get.number) result self.new }
-        ensures counts { IsCounted self.old 0 0 self.new }
-        ensures examined { Lends 4 self.old self.new }
-        ensures searched { Searches 2 self.new }
-        ensures limits { IsWithinLimits self.old }
+        ensures bounds { IsBounded 0 0 4 2 self.old self.new }
     {
-        self.limits();
-        let mut lendings = Lendings::none();
-        match self.gets.finish_holding(get, &mut lendings) {
+        let mut accesses = AccessCounter::none();
+        match self.gets.finish_holding(get, &mut accesses) {
             None => {
-                self.lendings.end_unfit(lendings);
+                self.accesses.end_unfit(accesses);
                 Err(Unfit)
             }
             Some((held, first_wait)) => {
@@ -400,8 +375,8 @@ impl<C: Drop, A> PoolInternals<C, A> {
                     number: held,
                     place: hint,
                 };
-                let key = self.records.hand_over(out, &mut lendings);
-                self.lendings.end(lendings);
+                let key = self.records.hand_over(out, &mut accesses);
+                self.accesses.end(accesses);
                 self.counters.serve(first_wait, now);
                 Ok(CheckedOkAnswer::Served(key))
             }
@@ -420,18 +395,14 @@ impl<C: Drop, A> PoolInternals<C, A> {
         broken: bool,
         hint: usize,
     ) -> Result<CheckedErrAnswer<C>, C>
-        ensures step { Stepped Meets answer_of_checked_err
+        ensures step { Stepped Steps answer_of_checked_err
             self.old at.0 (acts.CheckedErr get.number broken) result self.new }
         ensures connection { OrComesBack GivesBackInvalid conn result }
-        ensures counts { IsCounted self.old 0 (come_back result) self.new }
-        ensures examined { Lends 4 self.old self.new }
-        ensures searched { Searches 3 self.new }
-        ensures limits { IsWithinLimits self.old }
+        ensures bounds { IsBounded 0 (come_back result) 4 3 self.old self.new }
     {
-        self.limits();
-        let mut lendings = Lendings::none();
-        let Some(held) = self.gets.let_go(get, &mut lendings) else {
-            self.lendings.end_unfit(lendings);
+        let mut accesses = AccessCounter::none();
+        let Some(held) = self.gets.let_go(get, &mut accesses) else {
+            self.accesses.end_unfit(accesses);
             return Err(conn);
         };
         let now = self.latest.max(at.0);
@@ -440,7 +411,7 @@ impl<C: Drop, A> PoolInternals<C, A> {
             number: held,
             place: hint,
         };
-        let birth = self.records.birth(key, &mut lendings);
+        let birth = self.records.birth(key, &mut accesses);
         let retired = held < self.retired;
         let expired = either(is_expired(&self.config, now, birth), retired);
         let grant = close_and_grant(
@@ -448,12 +419,12 @@ impl<C: Drop, A> PoolInternals<C, A> {
             self.handles,
             &mut self.records,
             key,
-            &mut lendings,
+            &mut accesses,
         );
         self.counters.invalid += 1;
         self.counters.close(broken, retired, expired);
-        let notified = self.gets.notify(&mut lendings);
-        self.lendings.end(lendings);
+        let notified = self.gets.notify(&mut accesses);
+        self.accesses.end(accesses);
         Ok(CheckedErrAnswer::Closed(key, conn, grant, notified))
     }
 
@@ -468,25 +439,21 @@ impl<C: Drop, A> PoolInternals<C, A> {
         reason: Reason,
         broken: bool,
     ) -> Result<GiveUpAnswer<C>, Unfit>
-        ensures step { Stepped Meets answer_of_give_up self.old at.0
+        ensures step { Stepped Steps answer_of_give_up self.old at.0
             (acts.GiveUp get.number (reason_of reason) None broken) result self.new }
         ensures connection { IfOk result (GivesBackHeld None) }
-        ensures counts { IsCounted self.old 0 0 self.new }
-        ensures examined { Lends 4 self.old self.new }
-        ensures searched { Searches 1 self.new }
-        ensures limits { IsWithinLimits self.old }
+        ensures bounds { IsBounded 0 0 4 1 self.old self.new }
     {
-        self.limits();
-        let mut lendings = Lendings::none();
-        let Some(getting) = self.gets.end(get, &mut lendings) else {
-            self.lendings.end_unfit(lendings);
+        let mut accesses = AccessCounter::none();
+        let Some(getting) = self.gets.end(get, &mut accesses) else {
+            self.accesses.end_unfit(accesses);
             return Err(Unfit);
         };
         let now = self.latest.max(at.0);
         self.latest = now;
         self.counters.give_up(reason, getting.first_wait, now);
-        let heir = notify_next_if(&mut self.gets, is_notified(Some(getting)), &mut lendings);
-        self.lendings.end(lendings);
+        let heir = notify_next_if(&mut self.gets, is_notified(Some(getting)), &mut accesses);
+        self.accesses.end(accesses);
         Ok(GiveUpAnswer::GaveUp(heir))
     }
 
@@ -503,18 +470,14 @@ impl<C: Drop, A> PoolInternals<C, A> {
         broken: bool,
         hint: usize,
     ) -> Result<GiveUpAnswer<C>, C>
-        ensures step { Stepped Meets answer_of_give_up self.old at.0
+        ensures step { Stepped Steps answer_of_give_up self.old at.0
             (acts.GiveUp get.number (reason_of reason) (Some conn) broken) result self.new }
         ensures connection { OrComesBack (λ c. GivesBackHeld (Some c)) conn result }
-        ensures counts { IsCounted self.old 0 (come_back result) self.new }
-        ensures examined { Lends 4 self.old self.new }
-        ensures searched { Searches 3 self.new }
-        ensures limits { IsWithinLimits self.old }
+        ensures bounds { IsBounded 0 (come_back result) 4 3 self.old self.new }
     {
-        self.limits();
-        let mut lendings = Lendings::none();
-        let Some((held, first_wait)) = self.gets.finish_holding(get, &mut lendings) else {
-            self.lendings.end_unfit(lendings);
+        let mut accesses = AccessCounter::none();
+        let Some((held, first_wait)) = self.gets.finish_holding(get, &mut accesses) else {
+            self.accesses.end_unfit(accesses);
             return Err(conn);
         };
         let now = self.latest.max(at.0);
@@ -533,18 +496,18 @@ impl<C: Drop, A> PoolInternals<C, A> {
             holder,
             doubtful,
             ended,
-            self.greatest_age,
+            self.max_age,
             now,
-            &mut lendings,
+            &mut accesses,
         ) {
             // Unreachable: the connection of a get is checked out by it.
             Err(conn) => {
-                self.lendings.end_unfit(lendings);
+                self.accesses.end_unfit(accesses);
                 Err(conn)
             }
             Ok(Ok(())) => {
-                let notified = self.gets.notify(&mut lendings);
-                self.lendings.end(lendings);
+                let notified = self.gets.notify(&mut accesses);
+                self.accesses.end(accesses);
                 Ok(GiveUpAnswer::Kept(key, notified))
             }
             Ok(Err((conn, expired))) => {
@@ -553,13 +516,13 @@ impl<C: Drop, A> PoolInternals<C, A> {
                     self.handles,
                     &mut self.records,
                     key,
-                    &mut lendings,
+                    &mut accesses,
                 );
                 let retired = held < self.retired;
                 self.counters
                     .close(doubtful, retired, either(expired, retired));
-                let notified = self.gets.notify(&mut lendings);
-                self.lendings.end(lendings);
+                let notified = self.gets.notify(&mut accesses);
+                self.accesses.end(accesses);
                 Ok(GiveUpAnswer::Closed(key, conn, grant, notified))
             }
         }
@@ -576,17 +539,13 @@ impl<C: Drop, A> PoolInternals<C, A> {
         conn: C,
         broken: bool,
     ) -> Result<PutBackAnswer<C>, C>
-        ensures step { Stepped Meets (answer_of_put_back k.number)
+        ensures step { Stepped Steps (answer_of_put_back k.number)
             self.old at.0 (acts.PutBack k.number conn broken) result self.new }
         ensures connection { OrComesBack GivesBack conn result }
-        ensures counts { IsCounted self.old 0 (come_back result) self.new }
-        ensures examined { Lends 4 self.old self.new }
-        ensures searched { Searches 2 self.new }
-        ensures limits { IsWithinLimits self.old }
+        ensures bounds { IsBounded 0 (come_back result) 4 2 self.old self.new }
     {
-        self.limits();
         let now = self.latest.max(at.0);
-        let mut lendings = Lendings::none();
+        let mut accesses = AccessCounter::none();
         let ended = k.number < self.closed_below;
         let holder = Holder::Guard;
         match self.records.put_back(
@@ -595,18 +554,18 @@ impl<C: Drop, A> PoolInternals<C, A> {
             holder,
             broken,
             ended,
-            self.greatest_age,
+            self.max_age,
             now,
-            &mut lendings,
+            &mut accesses,
         ) {
             Err(conn) => {
-                self.lendings.end_unfit(lendings);
+                self.accesses.end_unfit(accesses);
                 Err(conn)
             }
             Ok(Ok(())) => {
                 self.latest = now;
-                let notified = self.gets.notify(&mut lendings);
-                self.lendings.end(lendings);
+                let notified = self.gets.notify(&mut accesses);
+                self.accesses.end(accesses);
                 Ok(PutBackAnswer::Kept(notified))
             }
             Ok(Err((conn, expired))) => {
@@ -616,13 +575,13 @@ impl<C: Drop, A> PoolInternals<C, A> {
                     self.handles,
                     &mut self.records,
                     k,
-                    &mut lendings,
+                    &mut accesses,
                 );
                 let retired = k.number < self.retired;
                 self.counters
                     .close(broken, retired, either(expired, retired));
-                let notified = self.gets.notify(&mut lendings);
-                self.lendings.end(lendings);
+                let notified = self.gets.notify(&mut accesses);
+                self.accesses.end(accesses);
                 Ok(PutBackAnswer::Closed(conn, grant, notified))
             }
         }
@@ -632,17 +591,13 @@ impl<C: Drop, A> PoolInternals<C, A> {
     /// granted, and the longest waiter is notified, as when a connection is closed. If no guard
     /// holds it, nothing changes. It is looked up twice.
     pub fn detach(&mut self, at: Moment, k: Key) -> Result<DetachAnswer, Unfit>
-        ensures step { Stepped Meets (answer_of_detach k.number)
+        ensures step { Stepped Steps (answer_of_detach k.number)
             self.old at.0 (acts.Detach k.number) result self.new }
-        ensures counts { IsCounted self.old 0 (come_back result) self.new }
-        ensures examined { Lends 4 self.old self.new }
-        ensures searched { Searches 2 self.new }
-        ensures limits { IsWithinLimits self.old }
+        ensures bounds { IsBounded 0 (come_back result) 4 2 self.old self.new }
     {
-        self.limits();
-        let mut lendings = Lendings::none();
-        if !self.records.is_guarded(k, &mut lendings) {
-            self.lendings.end_unfit(lendings);
+        let mut accesses = AccessCounter::none();
+        if !self.records.is_guarded(k, &mut accesses) {
+            self.accesses.end_unfit(accesses);
             return Err(Unfit);
         }
         self.latest = self.latest.max(at.0);
@@ -651,11 +606,11 @@ impl<C: Drop, A> PoolInternals<C, A> {
             self.handles,
             &mut self.records,
             k,
-            &mut lendings,
+            &mut accesses,
         );
         self.counters.detach();
-        let notified = self.gets.notify(&mut lendings);
-        self.lendings.end(lendings);
+        let notified = self.gets.notify(&mut accesses);
+        self.accesses.end(accesses);
         Ok(DetachAnswer::Detached(grant, notified))
     }
 
@@ -664,36 +619,32 @@ impl<C: Drop, A> PoolInternals<C, A> {
     /// drop. If the number is not that of a claimed approval, nothing changes, and `Err` has the
     /// connection. It is looked up once.
     pub fn opened(&mut self, at: Moment, a: Key, conn: C) -> Result<OpenedAnswer<C>, C>
-        ensures step { Stepped Meets (answer_of_opened a.number)
+        ensures step { Stepped Steps (answer_of_opened a.number)
             self.old at.0 (acts.Opened a.number conn) result self.new }
         ensures connection { OrComesBack HandsBack conn result }
-        ensures counts { IsCounted self.old 0 0 self.new }
-        ensures examined { Lends 4 self.old self.new }
-        ensures searched { Searches 1 self.new }
-        ensures limits { IsWithinLimits self.old }
+        ensures bounds { IsBounded 0 0 4 1 self.old self.new }
     {
-        self.limits();
         let now = self.latest.max(at.0);
-        let mut lendings = Lendings::none();
+        let mut accesses = AccessCounter::none();
         if a.number < self.closed_below {
-            if !self.records.end_claimed(a, &mut lendings) {
-                self.lendings.end_unfit(lendings);
+            if !self.records.end_claimed(a, &mut accesses) {
+                self.accesses.end_unfit(accesses);
                 return Err(conn);
             }
             self.latest = now;
-            self.lendings.end(lendings);
+            self.accesses.end(accesses);
             return Ok(OpenedAnswer::Late(conn));
         }
-        match self.records.enter(a, conn, now, &mut lendings) {
+        match self.records.enter(a, conn, now, &mut accesses) {
             Err(conn) => {
-                self.lendings.end_unfit(lendings);
+                self.accesses.end_unfit(accesses);
                 Err(conn)
             }
             Ok(()) => {
                 self.latest = now;
                 self.counters.created += 1;
-                let notified = self.gets.notify(&mut lendings);
-                self.lendings.end(lendings);
+                let notified = self.gets.notify(&mut accesses);
+                self.accesses.end(accesses);
                 Ok(OpenedAnswer::Entered(notified))
             }
         }
@@ -702,21 +653,17 @@ impl<C: Drop, A> PoolInternals<C, A> {
     /// Ends a claimed approval whose connection attempt failed. No get is notified. If the number
     /// is not that of a claimed approval, nothing changes. It is looked up once.
     pub fn failed(&mut self, at: Moment, approval: Key) -> Result<FailedAnswer, Unfit>
-        ensures step { Stepped Meets answer_of_failed self.old at.0 (acts.Failed approval.number)
+        ensures step { Stepped Steps answer_of_failed self.old at.0 (acts.Failed approval.number)
             result self.new }
-        ensures counts { IsCounted self.old 0 0 self.new }
-        ensures examined { Lends 4 self.old self.new }
-        ensures searched { Searches 1 self.new }
-        ensures limits { IsWithinLimits self.old }
+        ensures bounds { IsBounded 0 0 4 1 self.old self.new }
     {
-        self.limits();
-        let mut lendings = Lendings::none();
-        if !self.records.end_claimed(approval, &mut lendings) {
-            self.lendings.end_unfit(lendings);
+        let mut accesses = AccessCounter::none();
+        if !self.records.end_claimed(approval, &mut accesses) {
+            self.accesses.end_unfit(accesses);
             return Err(Unfit);
         }
         self.latest = self.latest.max(at.0);
-        self.lendings.end(lendings);
+        self.accesses.end(accesses);
         Ok(FailedAnswer::GivenBack)
     }
 
@@ -725,42 +672,38 @@ impl<C: Drop, A> PoolInternals<C, A> {
     /// there are as many of them as ever were and memory for one more was refused. If no handle is
     /// alive, nothing changes, and `Err` has it.
     pub fn add(&mut self, at: Moment, conn: C, broken: bool) -> Result<AddAnswer<C>, C>
-        ensures step { Stepped Meets answer_of_add self.old at.0 (acts.Add conn broken)
+        ensures step { Stepped Steps answer_of_add self.old at.0 (acts.Add conn broken)
             result self.new }
         ensures connection { OrComesBack Refuses conn result }
-        ensures counts { IsCounted self.old 0 0 self.new }
-        ensures examined { Lends 4 self.old self.new }
-        ensures searched { Searches 0 self.new }
-        ensures limits { IsWithinLimits self.old }
+        ensures bounds { IsBounded 0 0 4 0 self.old self.new }
     {
-        self.limits();
         if !self.fits_add() {
-            self.lendings.end_unfit(Lendings::none());
+            self.accesses.end_unfit(AccessCounter::none());
             return Err(conn);
         }
         let now = self.latest.max(at.0);
         self.latest = now;
-        let mut lendings = Lendings::none();
+        let mut accesses = AccessCounter::none();
         if broken {
-            self.lendings.end(lendings);
+            self.accesses.end(accesses);
             return Ok(AddAnswer::Broken(conn));
         }
         if self.records.used() == self.config.max_size as u64 {
-            self.lendings.end(lendings);
+            self.accesses.end(accesses);
             return Ok(AddAnswer::NoCapacity(conn));
         }
         if !self.records.has_number() {
-            self.lendings.end(lendings);
+            self.accesses.end(accesses);
             return Ok(AddAnswer::Withheld(conn));
         }
         match self.records.add(conn, now) {
             Ok(key) => {
-                let notified = self.gets.notify(&mut lendings);
-                self.lendings.end(lendings);
+                let notified = self.gets.notify(&mut accesses);
+                self.accesses.end(accesses);
                 Ok(AddAnswer::Added(key, notified))
             }
             Err(conn) => {
-                self.lendings.end(lendings);
+                self.accesses.end(accesses);
                 Ok(AddAnswer::Withheld(conn))
             }
         }

@@ -12,7 +12,7 @@ ghost use Rattle.bb8_core.specs.declared.replay.events.Act.TheVariants as events
 ghost use Rattle.bb8_types.specs.Settings.{settings_of, is_lawful};
 ghost use Rattle.bb8_core.specs.StateView.{Represents, Meets};
 ghost use Rattle.bb8_core.specs.Unfit.{answered};
-ghost use Rattle.bb8_core.specs.StepAnswers.{answer_of_checked_ok, answer_of_checked_err, answer_of_give_up, answer_of_detach, answer_of_failed, answer_of_reap};
+ghost use Rattle.bb8_core.specs.StepAnswers.{answer_of_checked_ok, answer_of_checked_err, answer_of_give_up, answer_of_detach, answer_of_evict, answer_of_failed, answer_of_leave, answer_of_reap};
 
 mod events;
 mod hints;
@@ -20,8 +20,8 @@ mod hints;
 use self::hints::Hints;
 use crate::answers::{
     AddAnswer, BeginAnswer, CheckedErrAnswer, CheckedOkAnswer, ClaimAnswer, DetachAnswer,
-    FailedAnswer, GiveUpAnswer, JoinAnswer, LeaveAnswer, OpenedAnswer, PutBackAnswer, ReapAnswer,
-    TryAnswer, Unfit,
+    EvictAnswer, FailedAnswer, GiveUpAnswer, JoinAnswer, LeaveAnswer, OpenedAnswer, PutBackAnswer,
+    ReapAnswer, TryAnswer, Unfit,
 };
 use crate::internals::PoolInternals;
 use bb8_tables::keys::{GetKey, Key};
@@ -65,7 +65,9 @@ impl Known {
             Act::Try(get) | Act::CheckedOk(get) => self.gets.place(get),
             Act::CheckedErr(get, _) | Act::GiveUp(get, _, _) => self.gets.place(get),
             Act::PutBack(number, _) | Act::Detach(number) => self.records.place(number),
-            Act::Opened(number) | Act::Failed(number) => self.records.place(number),
+            Act::Evict(number) | Act::Opened(number) | Act::Failed(number) => self
+                .records
+                .place(number),
             Act::Begin | Act::Fill(_) | Act::Ask | Act::Claim | Act::Add(_) => 0,
             Act::Reap
             | Act::Retire
@@ -110,6 +112,7 @@ fn fits_act<C: Drop>(pool: &PoolInternals<C>, act: Act) -> bool
         }
         Act::GiveUp(number, _, _) => pool.is_alive(GetKey { number, place }),
         Act::PutBack(number, _) | Act::Detach(number) => pool.is_guarded(Key { number, place }),
+        Act::Evict(number) => pool.is_idle(Key { number, place }),
         Act::Opened(number) | Act::Failed(number) => pool.is_claimed(Key { number, place }),
         Act::Join => pool.fits_join(),
         Act::Leave => pool.fits_leave(),
@@ -155,11 +158,11 @@ fn checked_ok(pool: &mut PoolInternals<u64>, known: &Known, at: Moment, get: Get
 {
     let hint = known.hint(pool.held(get));
     let next = pool.next_number();
-    told_of_checked_ok(pool.checked_ok(at, get, hint), next)
+    outcome_of_checked_ok(pool.checked_ok(at, get, hint), next)
 }
 
 /// Returns the replay's result of a passed check. `next` is the next number.
-fn told_of_checked_ok(answer: Result<CheckedOkAnswer, Unfit>, next: u64) -> Answer
+fn outcome_of_checked_ok(answer: Result<CheckedOkAnswer, Unfit>, next: u64) -> Answer
     ensures { answer_of result ≡ answered (answer_of_checked_ok next) answer }
 {
     match answer {
@@ -178,11 +181,11 @@ fn checked_err(
     ensures { Meets pool.old at.0 (acts.CheckedErr get.number broken) (answer_of result) pool.new }
 {
     let held = pool.held(get);
-    told_of_checked_err(pool.checked_err(at, get, held.unwrap_or(0), broken, known.hint(held)))
+    outcome_of_checked_err(pool.checked_err(at, get, held.unwrap_or(0), broken, known.hint(held)))
 }
 
 /// Returns the replay's result of a failed check.
-fn told_of_checked_err(answer: Result<CheckedErrAnswer<u64>, u64>) -> Answer
+fn outcome_of_checked_err(answer: Result<CheckedErrAnswer<u64>, u64>) -> Answer
     ensures { answer_of result ≡ answered answer_of_checked_err answer }
 {
     match answer {
@@ -194,7 +197,7 @@ fn told_of_checked_err(answer: Result<CheckedErrAnswer<u64>, u64>) -> Answer
 }
 
 /// Returns the replay's result of a get that timed out or was cancelled.
-fn told_of_give_up<U: Drop>(answer: Result<GiveUpAnswer<u64>, U>) -> Answer
+fn outcome_of_give_up<U: Drop>(answer: Result<GiveUpAnswer<u64>, U>) -> Answer
     ensures { answer_of result ≡ answered answer_of_give_up answer }
 {
     match answer {
@@ -220,10 +223,10 @@ fn give_up(
     ensures { Happens pool.old at.0 (events.GiveUp get.number reason broken) result pool.new }
 {
     match pool.held(get) {
-        None => told_of_give_up(pool.give_up(at, get, reason, broken)),
+        None => outcome_of_give_up(pool.give_up(at, get, reason, broken)),
         Some(held) => {
             let hint = known.records.place(held);
-            told_of_give_up(pool.give_back(at, get, reason, held, broken, hint))
+            outcome_of_give_up(pool.give_back(at, get, reason, held, broken, hint))
         }
     }
 }
@@ -244,15 +247,33 @@ fn put_back(pool: &mut PoolInternals<u64>, at: Moment, key: Key, broken: bool) -
 fn detach(pool: &mut PoolInternals<u64>, at: Moment, key: Key) -> Answer
     ensures { Meets pool.old at.0 (acts.Detach key.number) (answer_of result) pool.new }
 {
-    told_of_detach(pool.detach(at, key), key.number)
+    outcome_of_detach(pool.detach(at, key), key.number)
 }
 
 /// Returns the replay's result of a detach of this number.
-fn told_of_detach(answer: Result<DetachAnswer, Unfit>, number: u64) -> Answer
+fn outcome_of_detach(answer: Result<DetachAnswer, Unfit>, number: u64) -> Answer
     ensures { answer_of result ≡ answered (answer_of_detach number) answer }
 {
     match answer {
         Ok(DetachAnswer::Detached(grant, notified)) => {
+            Answer::Closed(number, grant, number_of(notified))
+        }
+        Err(Unfit) => Answer::Unfit,
+    }
+}
+
+fn evict(pool: &mut PoolInternals<u64>, at: Moment, key: Key) -> Answer
+    ensures { Meets pool.old at.0 (acts.Evict key.number) (answer_of result) pool.new }
+{
+    outcome_of_evict(pool.evict(at, key), key.number)
+}
+
+/// Returns the replay's result of an eviction of this number.
+fn outcome_of_evict(answer: Result<EvictAnswer<u64>, Unfit>, number: u64) -> Answer
+    ensures { answer_of result ≡ answered (answer_of_evict number) answer }
+{
+    match answer {
+        Ok(EvictAnswer::Evicted(_, grant, notified)) => {
             Answer::Closed(number, grant, number_of(notified))
         }
         Err(Unfit) => Answer::Unfit,
@@ -285,11 +306,11 @@ fn opened(pool: &mut PoolInternals<u64>, at: Moment, key: Key) -> Answer
 fn failed(pool: &mut PoolInternals<u64>, at: Moment, key: Key) -> Answer
     ensures { Meets pool.old at.0 (acts.Failed key.number) (answer_of result) pool.new }
 {
-    told_of_failed(pool.failed(at, key))
+    outcome_of_failed(pool.failed(at, key))
 }
 
 /// Returns the replay's result of a failed connection attempt.
-fn told_of_failed(answer: Result<FailedAnswer, Unfit>) -> Answer
+fn outcome_of_failed(answer: Result<FailedAnswer, Unfit>) -> Answer
     ensures { answer_of result ≡ answered answer_of_failed answer }
 {
     match answer {
@@ -318,17 +339,17 @@ fn add(pool: &mut PoolInternals<u64>, known: &mut Known, at: Moment, broken: boo
 fn reap(pool: &mut PoolInternals<u64>, at: Moment) -> Answer
     ensures { Meets pool.old at.0 acts.Reap (answer_of result) pool.new }
 {
-    told_of_reap(pool.reap(at))
+    outcome_of_reap(pool.reap(at))
 }
 
 fn retire(pool: &mut PoolInternals<u64>, at: Moment) -> Answer
     ensures { Meets pool.old at.0 acts.Retire (answer_of result) pool.new }
 {
-    told_of_reap(pool.retire(at))
+    outcome_of_reap(pool.retire(at))
 }
 
 /// Returns the replay's result of a reap or a retire.
-fn told_of_reap(answer: ReapAnswer) -> Answer
+fn outcome_of_reap(answer: ReapAnswer) -> Answer
     ensures { answer_of result ≡ answer_of_reap answer }
 {
     match answer {
@@ -360,16 +381,20 @@ fn join(pool: &mut PoolInternals<u64>, at: Moment) -> Answer
 fn leave(pool: &mut PoolInternals<u64>, at: Moment) -> Answer
     ensures { Meets pool.old at.0 acts.Leave (answer_of result) pool.new }
 {
-    match pool.leave(at) {
-        Ok(LeaveAnswer::Left(closed)) => Answer::Left(closed),
-        Err(Unfit) => Answer::Unfit,
-    }
+    outcome_of_leave(pool.leave(at))
 }
 
 fn close(pool: &mut PoolInternals<u64>, at: Moment) -> Answer
     ensures { Meets pool.old at.0 acts.Close (answer_of result) pool.new }
 {
-    match pool.close(at) {
+    outcome_of_leave(pool.close(at))
+}
+
+/// Returns the replay's result of a leave or a close.
+fn outcome_of_leave(answer: Result<LeaveAnswer, Unfit>) -> Answer
+    ensures { answer_of result ≡ answered answer_of_leave answer }
+{
+    match answer {
         Ok(LeaveAnswer::Left(closed)) => Answer::Left(closed),
         Err(Unfit) => Answer::Unfit,
     }
@@ -407,6 +432,7 @@ pub fn apply(pool: &mut PoolInternals<u64>, known: &mut Known, event: Event) -> 
         }
         Act::PutBack(number, broken) => put_back(pool, event.at, Key { number, place }, broken),
         Act::Detach(number) => detach(pool, event.at, Key { number, place }),
+        Act::Evict(number) => evict(pool, event.at, Key { number, place }),
         Act::Fill(claimed) => Answer::Granted(pool.fill(event.at, claimed)),
         Act::Ask => Answer::Granted(pool.ask(event.at)),
         Act::Claim => claim(pool, known, event.at),

@@ -1,4 +1,5 @@
-//! Tests against values from outside: rows that were worked out by hand, and each call once.
+//! Tests against values from outside: rows that were worked out by hand, each call once, audits
+//! that must fail, and refused memory.
 
 use bb8_core::api::{Config, State, Statistics};
 use bb8_core::internals::Grant;
@@ -10,10 +11,13 @@ mod at_once;
 mod checks;
 mod crowd;
 mod handing;
+mod journals;
 mod reaps;
 mod replays;
+mod scripts;
 mod steps;
 mod surface;
+mod tasks;
 mod threads;
 
 /// Ends the test if the found value is not the wanted one, and prints both.
@@ -21,7 +25,33 @@ fn assert_equal<T: PartialEq + Debug + Drop>(rt: &impl Abort, found: T, wanted: 
     assert_eq!(rt; found, wanted);
 }
 
-/// One second in nanoseconds.
+/// Three gets are served while two connections are kept idle, and all are returned.
+const FIRST_SCRIPT: &[u8] = b"\
+    config max_size=5 min_idle=2 check=off\n\
+    0 fill\n\
+    0 claim\n\
+    0 claim\n\
+    0 open 0\n\
+    0 open 1\n\
+    0 begin\n\
+    0 try 0\n\
+    0 claim\n\
+    0 open 2\n\
+    0 begin\n\
+    0 try 1\n\
+    0 claim\n\
+    0 open 3\n\
+    0 begin\n\
+    0 try 2\n\
+    0 claim\n\
+    0 open 4\n\
+    0 return 0\n\
+    0 return 1\n\
+    0 return 2\n";
+
+/// One millisecond and one second in nanoseconds.
+const MILLI: u64 = 1_000_000;
+
 const SECOND: u64 = 1_000_000_000;
 
 /// Returns a grant that withholds nothing.

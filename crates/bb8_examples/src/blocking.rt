@@ -1,9 +1,8 @@
 //! A manager for a client that blocks: each of its calls occupies the polling thread.
 use bb8::{
-    Builder, MachineClock, NopCustomizer, Pool, PoolCalls, PoolParts, PrintingSink, RunError,
-    Runtime, Service,
+    Blocking, BlockingManager, Builder, MachineClock, NopCustomizer, Pool, PoolCalls, PoolPermits,
+    PrintingSink, RunError, Runtime, Service,
 };
-use bb8_blocking::{Blocking, BlockingManager};
 use std::thread::Threads;
 use std::time::{Clock, Duration};
 use std::{fmt, thread};
@@ -85,16 +84,16 @@ impl<R: Runtime + Eprint> Service<
     MachineClock<R>,
     R,
 > for Reading<R> {
-    type Told = u64;
+    type Output = u64;
 
     type Outcome = u64;
 
-    fn begin<L: PoolParts>(&self, _pool: &FilePool<PrintingSink<R>, R, L>) -> Result<(), u64> {
+    fn begin<L: PoolPermits>(&self, _pool: &FilePool<PrintingSink<R>, R, L>) -> Result<(), u64> {
         Ok(())
     }
 
     /// Uses the connection in this thread, so its calls may block.
-    fn run<L: PoolParts>(&self, pool: &FilePool<PrintingSink<R>, R, L>, _thread: usize) -> u64 {
+    fn run<L: PoolPermits>(&self, pool: &FilePool<PrintingSink<R>, R, L>, _thread: usize) -> u64 {
         let Ok(mut file) = pool.get_blocking() else {
             return 0;
         };
@@ -103,9 +102,9 @@ impl<R: Runtime + Eprint> Service<
         file.reads.min(1)
     }
 
-    fn end<L: PoolParts>(&self, _pool: &FilePool<PrintingSink<R>, R, L>, told: &[u64]) -> u64 {
+    fn end<L: PoolPermits>(&self, _pool: &FilePool<PrintingSink<R>, R, L>, results: &[u64]) -> u64 {
         let mut sum: u64 = 0;
-        for one in told {
+        for one in results {
             sum = sum.saturating_add(*one);
         }
         sum

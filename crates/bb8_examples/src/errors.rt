@@ -1,10 +1,9 @@
-//! How to tell the errors of a get apart.
+//! How to distinguish the errors of a get.
 use crate::blocking::{Down, FilePool, Files};
 use bb8::{
-    Builder, MachineClock, NopCustomizer, NopErrorSink, PoolCalls, PoolParts, RunError, Runtime,
-    Service,
+    Blocking, Builder, MachineClock, NopCustomizer, NopErrorSink, PoolCalls, PoolPermits, RunError,
+    Runtime, Service,
 };
-use bb8_blocking::Blocking;
 use std::thread::Threads;
 use std::time::Duration;
 
@@ -25,20 +24,20 @@ struct Twice;
 
 impl<R: Runtime> Service<Blocking<Files<R>>, NopErrorSink, NopCustomizer, MachineClock<R>, R>
     for Twice {
-    type Told = ();
+    type Output = ();
 
     type Outcome = (Ended, Ended);
 
-    fn begin<L: PoolParts>(
+    fn begin<L: PoolPermits>(
         &self,
         _pool: &FilePool<NopErrorSink, R, L>,
     ) -> Result<(), (Ended, Ended)> {
         Ok(())
     }
 
-    fn run<L: PoolParts>(&self, _pool: &FilePool<NopErrorSink, R, L>, _thread: usize) {}
+    fn run<L: PoolPermits>(&self, _pool: &FilePool<NopErrorSink, R, L>, _thread: usize) {}
 
-    fn end<L: PoolParts>(
+    fn end<L: PoolPermits>(
         &self,
         pool: &FilePool<NopErrorSink, R, L>,
         _told: &[()],

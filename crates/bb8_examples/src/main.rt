@@ -1,16 +1,17 @@
-//! Examples that print a few lines each: how the errors of a get are told apart, a pool whose
-//! settings are read at run time, a manager for a client that blocks, and a sink that prints.
-//! `tests` tests a manager.
+//! Examples that print a few lines each: how to distinguish the errors of a get, a pool whose
+//! settings are read at run time, a manager for a client that blocks, a sink that prints, and a
+//! service over SQLite databases. A manager's tests are in `bb8_template`.
 #![tactic(auto)]
 
 mod blocking;
+mod databases;
 mod errors;
+mod service;
 mod settings;
-#[cfg(test)]
-mod tests;
 
 use crate::blocking::{Files, reads};
 use crate::errors::{Ended, ends};
+use crate::service::print_visits;
 use crate::settings::{SETTINGS, served};
 use bb8::RunError;
 use std::io;
@@ -48,5 +49,5 @@ fn main(rt: HostRuntime) -> io::Result<()> {
         Err(RunError::User(error)) => println!(rt; "blocking: {error}")?,
         _ => println!(rt; "blocking: a pool of a server that is down")?,
     }
-    Ok(())
+    print_visits(rt)
 }

@@ -1,10 +1,9 @@
 //! A pool whose settings are read at run time: they are checked before it is built.
 use crate::blocking::{Down, FilePool, Files};
 use bb8::{
-    Builder, Config, MachineClock, NopCustomizer, NopErrorSink, PoolCalls, PoolParts, RunError,
-    Runtime, Service,
+    Blocking, Builder, Config, MachineClock, NopCustomizer, NopErrorSink, PoolCalls, PoolPermits,
+    RunError, Runtime, Service,
 };
-use bb8_blocking::Blocking;
 use std::thread::Threads;
 
 /// Settings as they might be read: `max_size` and `min_idle`.
@@ -16,20 +15,20 @@ struct GetsOnce;
 
 impl<R: Runtime> Service<Blocking<Files<R>>, NopErrorSink, NopCustomizer, MachineClock<R>, R>
     for GetsOnce {
-    type Told = bool;
+    type Output = bool;
 
     type Outcome = usize;
 
-    fn begin<L: PoolParts>(&self, _pool: &FilePool<NopErrorSink, R, L>) -> Result<(), usize> {
+    fn begin<L: PoolPermits>(&self, _pool: &FilePool<NopErrorSink, R, L>) -> Result<(), usize> {
         Ok(())
     }
 
-    fn run<L: PoolParts>(&self, pool: &FilePool<NopErrorSink, R, L>, _thread: usize) -> bool {
+    fn run<L: PoolPermits>(&self, pool: &FilePool<NopErrorSink, R, L>, _thread: usize) -> bool {
         pool.get_blocking().is_ok()
     }
 
-    fn end<L: PoolParts>(&self, _pool: &FilePool<NopErrorSink, R, L>, told: &[bool]) -> usize {
-        told.iter().filter(|served| **served).count()
+    fn end<L: PoolPermits>(&self, _pool: &FilePool<NopErrorSink, R, L>, results: &[bool]) -> usize {
+        results.iter().filter(|served| **served).count()
     }
 }
 

@@ -1,4 +1,4 @@
 pub mod Homes
 pub mod Polls
 pub mod Steps
-pub mod Told
+pub mod Outcomes

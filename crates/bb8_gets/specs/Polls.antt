@@ -76,7 +76,7 @@ closed_in (failed.Closed k c grant n) = c
 module _ {C E V P X : Type 0} (outside : OutsideOf X C E V) where
   -- has_broken is called for a connection that is returned
   abbrev pub Asks : Taken C P → X → Returned C P → X → Type 0
-  Asks t x r x' = outside.breaks x t.connection r.broken r.taken.connection x' × (r.taken.key ≡ t.key) × (r.taken.part ≡ t.part)
+  Asks t x r x' = outside.breaks x t.connection r.broken r.taken.connection x' × (r.taken.key ≡ t.key) × (r.taken.permit ≡ t.permit)
 
 module _ {C E V P H X : Type 0} (home : HomeOf X C P H) (outside : OutsideOf X C E V) where
   -- a connection is dropped after a step
@@ -130,7 +130,7 @@ module _ {C E V P H X : Type 0} (home : HomeOf X C P H) (outside : OutsideOf X C
 
   -- after the step for a passed check
   abbrev pub AfterPass : Result (Passed P) Unfit → C → X → Next C V P E → X → Type 0
-  AfterPass (Ok p) c x next x' = MovesTo (Answer (Ok (record { key = p.key; connection = c; part = p.part }))) x next x'
+  AfterPass (Ok p) c x next x' = MovesTo (Answer (Ok (record { key = p.key; connection = c; permit = p.permit }))) x next x'
   AfterPass (Err u) c x next x' = DropsAfterStep home outside c x x' × (next ≡ Answer (Err errors.TimedOut))
 
   -- after a poll of a check, with the connection and the check as it left them: a check with a
@@ -139,7 +139,7 @@ module _ {C E V P H X : Type 0} (home : HomeOf X C P H) (outside : OutsideOf X C
   AfterCheck Pending b held x next x' = MovesTo (Stand (Checking b held)) x next x'
   AfterCheck (Ready (Ok u)) b held x next x' =
       (x1 : X) × outside.ends_check x held.checking x1
-      × ((a : Result (Passed P) Unfit) × (x2 : X) × home.steps x1 m (step.Passes b.get held.taken.key held.taken.part a) x2
+      × ((a : Result (Passed P) Unfit) × (x2 : X) × home.steps x1 m (step.Passes b.get held.taken.key held.taken.permit a) x2
       × AfterPass a held.taken.connection x2 next x')
   AfterCheck (Ready (Err e)) b held x next x' = (x1 : X) × outside.ends_check x held.checking x1 × CheckFails b held.taken e x1 next x'
 
@@ -231,7 +231,7 @@ module _ {C E V P H X : Type 0} (home : HomeOf X C P H) (outside : OutsideOf X C
   -- it has a result or its deadline is compared.
   abbrev pub Goes : ℕ → Stage C V P → X → Settled C V P E → X → Type 0
   Goes timeout stage x settled x' =
-      (at : Moment) × (x1 : X) × outside.tells x at x1
+      (at : Moment) × (x1 : X) × outside.reports x at x1
       × ((seen : Looked) × (x2 : X) × home.steps x1 at (step.Looks seen) x2
       × ((next : Next C V P E) × (x3 : X) × GetAdvances home outside seen.moment seen.alive timeout stage x2 next x3
       × EndsPoll home outside seen.moment next x3 settled x'))
@@ -244,14 +244,14 @@ module _ {C E V P H X : Type 0} (home : HomeOf X C P H) (outside : OutsideOf X C
 
   -- a get that has begun and holds no connection is cancelled
   abbrev pub CancelsFree : GetKey → X → X → Type 0
-  CancelsFree g x x' = (at : Moment) × (x1 : X) × outside.tells x at x1 × LeavesLine home outside at g Cancelled x1 x'
+  CancelsFree g x x' = (at : Moment) × (x1 : X) × outside.reports x at x1 × LeavesLine home outside at g Cancelled x1 x'
 
   -- a get whose connection is being checked is cancelled
   abbrev pub CancelsHeld : GetKey → CheckUnderWay C V P → X → X → Type 0
   CancelsHeld g held x x' =
       (x1 : X) × outside.ends_check x held.checking x1
       × ((r : Returned C P) × (x2 : X) × Asks outside held.taken x1 r x2
-      × ((at : Moment) × (x3 : X) × outside.tells x2 at x3 × TakesBack home outside at g Cancelled r x3 x'))
+      × ((at : Moment) × (x3 : X) × outside.reports x2 at x3 × TakesBack home outside at g Cancelled r x3 x'))
 
   -- A get is cancelled: has_broken is called for a connection that it holds, the clock is read, and
   -- the get ends as cancelled. In Fresh and Done no call is made.

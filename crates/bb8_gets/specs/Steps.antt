@@ -38,7 +38,7 @@ use Rattle.bb8_gets.specs.declared.home.Passed.{Passed}
 use Rattle.bb8_gets.specs.declared.home.Returned.{Returned}
 use Rattle.bb8_gets.specs.declared.home.Tried.{Tried}
 use Rattle.bb8_core.specs.declared.answers.Unfit.{Unfit}
-use Rattle.bb8_gets.specs.Told.{in_core, answer_of_passed, answer_of_tried}
+use Rattle.bb8_gets.specs.Outcomes.{in_core, answer_of_passed, answer_of_tried}
 
 -- Each step, with its arguments and its result.
 pub data GetStep (C P H : Type 0) : Type 0 where
@@ -87,7 +87,7 @@ module _ {C P H : Type 0} (settings : Settings) where
   StepsBy s at (Looks seen) s' = StepsIn settings s at.0 acts.Look (answer_of_look seen) s'
   StepsBy s at (Starts r) s' = StartsBy (StepsIn settings) s at.0 r s'
   StepsBy s at (Tries get t) s' = Stepped (StepsIn settings) answer_of_tried s at.0 (acts.Try get.number) t s' × IfOk t (λ a. HandsOut s (in_core a))
-  StepsBy s at (Passes get key part a) s' = Stepped (StepsIn settings) (answer_of_passed s.records.next) s at.0 (acts.CheckedOk get.number) a s'
+  StepsBy s at (Passes get key permit a) s' = Stepped (StepsIn settings) (answer_of_passed s.records.next) s at.0 (acts.CheckedOk get.number) a s'
   StepsBy s at (Fails get r a) s' =
       Stepped (StepsIn settings) answer_of_checked_err s at.0 (acts.CheckedErr get.number r.broken) a s' × OrComesBack GivesBackInvalid r.taken.connection a
   StepsBy s at (GivesUp get why a) s' = Stepped (StepsIn settings) answer_of_give_up s at.0 (acts.GiveUp get.number (reason_of why) None false) a s'
@@ -105,6 +105,6 @@ module _ {C P H : Type 0} (settings : Settings) where
   StepsBy s at (Joins a) s' = StepsIn settings s at.0 acts.Join (joining_told a) s'
   StepsBy s at (Leaves a) s' = Stepped (StepsIn settings) answer_of_leave s at.0 acts.Leave a s'
   StepsBy s at (Retires list a offered) s' = StepsIn settings s at.0 acts.Retire (answer_of_reap a) s' × OffersRetired s at.0 a list offered
-  StepsBy s at (Detaches key part a) s' = Stepped (StepsIn settings) (answer_of_detach key.number) s at.0 (acts.Detach key.number) a s'
+  StepsBy s at (Detaches key permit a) s' = Stepped (StepsIn settings) (answer_of_detach key.number) s at.0 (acts.Detach key.number) a s'
   StepsBy s at (Closes list closed a) s' =
       Stepped (StepsIn settings) answer_of_leave s at.0 acts.Close a s' × IfOk a (λ _. OffersShut s list closed) × IfErr a (λ _. closed ≡ list)

@@ -17,7 +17,7 @@ pub struct Taken<C, P> {
     /// The connection, which a get or a guard holds from now on.
     pub connection: C,
     /// Its permit.
-    pub part: P,
+    pub permit: P,
 }
 
 /// The result of a try.
@@ -45,17 +45,17 @@ pub struct Passed<P> {
     /// The key of the connection.
     pub key: Key,
     /// Its permit.
-    pub part: P,
+    pub permit: P,
 }
 
 impl<P> Passed<P> {
     /// Returns a result of the core with the connection's permit.
-    pub fn of(answer: CheckedOkAnswer, part: P) -> Self
+    pub fn of(answer: CheckedOkAnswer, permit: P) -> Self
         ensures served { answer ≡ IsServed result.key }
-        ensures part { result.part ≡ part }
+        ensures permit { result.permit ≡ permit }
     {
         let CheckedOkAnswer::Served(key) = answer;
-        Passed { key, part }
+        Passed { key, permit }
     }
 }
 
@@ -91,12 +91,12 @@ pub trait LetGo {
 /// behind its lock is such a home, and so is the lock itself.
 ///
 /// One ghost member relates the home, each step with its arguments and result, and the home after
-/// it. It has no default: what is proved of a get's polls and of critical sections holds for every
+/// it. It has no default: clauses of a get's polls and of critical sections hold for every
 /// choice. A connection that is closed, or whose step did not fit, is returned to the caller, who
 /// must drop it.
 pub trait GetHome<C> {
     /// The permit of a checked-out connection.
-    type Part;
+    type Permit;
 
     /// A handle that is alive.
     type Handle;
@@ -106,7 +106,7 @@ pub trait GetHome<C> {
 
     // Relates a home, a moment, and a step with its arguments and each possible result, to the home
     // after it. For `look` the moment is a reading of the clock.
-    ghost steps: { Self → MomentOf → GetStep C Self.Part Self.Handle → Self → Type 0 };
+    ghost steps: { Self → MomentOf → GetStep C Self.Permit Self.Handle → Self → Type 0 };
 
     /// Releases the home until its next step. It is called between a step and the user callback
     /// after it: a home that acquires a lock for its steps releases it here.
@@ -118,12 +118,12 @@ pub trait GetHome<C> {
         ensures { steps self.old at (Looks result) self.new };
 
     /// Begins a get and lets it try, in one step.
-    fn start(&mut self, at: Moment) -> Result<FirstTry<C, Self::Part>, Unfit>
+    fn start(&mut self, at: Moment) -> Result<FirstTry<C, Self::Permit>, Unfit>
         ensures { steps self.old at (Starts result) self.new };
 
     /// Gives a get an idle connection, with which it is served or which it must check; or lets the
     /// get wait.
-    fn try_get(&mut self, at: Moment, get: GetKey) -> Result<Tried<C, Self::Part>, Unfit>
+    fn try_get(&mut self, at: Moment, get: GetKey) -> Result<Tried<C, Self::Permit>, Unfit>
         ensures { steps self.old at (Tries get result) self.new };
 
     /// Serves a get with the connection that it holds, because its check passed. The home returns
@@ -133,9 +133,9 @@ pub trait GetHome<C> {
         at: Moment,
         get: GetKey,
         key: Key,
-        part: Self::Part,
-    ) -> Result<Passed<Self::Part>, Unfit>
-        ensures { steps self.old at (Passes get key part result) self.new };
+        permit: Self::Permit,
+    ) -> Result<Passed<Self::Permit>, Unfit>
+        ensures { steps self.old at (Passes get key permit result) self.new };
 
     /// Closes the connection that a get holds, because its check failed; the get must try again. If
     /// the step does not fit, `Err` has the connection.
@@ -143,7 +143,7 @@ pub trait GetHome<C> {
         &mut self,
         at: Moment,
         get: GetKey,
-        returned: Returned<C, Self::Part>,
+        returned: Returned<C, Self::Permit>,
     ) -> Result<CheckedErrAnswer<C>, C>
         ensures { steps self.old at (Fails get returned result) self.new };
 
@@ -158,7 +158,7 @@ pub trait GetHome<C> {
         at: Moment,
         get: GetKey,
         reason: Reason,
-        returned: Returned<C, Self::Part>,
+        returned: Returned<C, Self::Permit>,
     ) -> Result<GiveUpAnswer<C>, C>
         ensures { steps self.old at (GivesBack get reason returned result) self.new };
 
@@ -167,7 +167,7 @@ pub trait GetHome<C> {
     fn put_back(
         &mut self,
         at: Moment,
-        returned: Returned<C, Self::Part>,
+        returned: Returned<C, Self::Permit>,
     ) -> Result<PutBackAnswer<C>, C>
         ensures { steps self.old at (PutsBack returned result) self.new };
 
@@ -190,17 +190,17 @@ pub trait GetHome<C> {
 
     /// Retires all connections that there are and all whose connection attempts are under way. Idle
     /// ones are closed and put into the list, in the order in which they are closed; one for which
-    /// it has no room is dropped here. Those that are out are closed when they are returned, and
+    /// it has no capacity is dropped here. Checked-out ones are closed when they are returned, and
     /// those of attempts come too late.
     fn retire(&mut self, at: Moment, closed: &mut ClosedList<C>) -> ReapAnswer
         ensures { steps self.old at (Retires closed.old result closed.new) self.new };
     /// Ends the record of a connection that a guard keeps, and takes back its permit, which is lost
     /// if the step does not fit.
-    fn detach(&mut self, at: Moment, key: Key, part: Self::Part) -> Result<DetachAnswer, Unfit>
-        ensures { steps self.old at (Detaches key part result) self.new };
+    fn detach(&mut self, at: Moment, key: Key, permit: Self::Permit) -> Result<DetachAnswer, Unfit>
+        ensures { steps self.old at (Detaches key permit result) self.new };
 
     /// Drops all handles. All idle connections and all unclaimed approvals end. The connections are
-    /// moved into a list; those for which it has no room are dropped here.
+    /// moved into a list; those for which it has no capacity are dropped here.
     fn close(&mut self, at: Moment, closed: &mut ClosedList<C>) -> Result<LeaveAnswer, Unfit>
         ensures { steps self.old at (Closes closed.old closed.new result) self.new };
 }

@@ -10,7 +10,7 @@ use futures::task::Poll;
 /// and drops of connections. Connections are `C`, the manager's errors `E`.
 ///
 /// Each call changes the value on which it is made, by a relation that says nothing else and has no
-/// default. So a chain of these relations is the list of all calls, in their order: a call that is
+/// default. So a trace of these relations is the list of all calls, in their order: a call that is
 /// made twice, left out or made elsewhere does not satisfy it.
 pub trait Outside<C, E> {
     /// A check in progress.
@@ -18,7 +18,7 @@ pub trait Outside<C, E> {
 
     // Relates `self` before a reading of the clock, the moment that it returns, and `self` after
     // it.
-    ghost tells: { Self → MomentOf → Self → Type 0 };
+    ghost reports: { Self → MomentOf → Self → Type 0 };
 
     // Relates `self` before the begin of a check, the connection, the check, the connection then,
     // and `self` after it.
@@ -43,7 +43,7 @@ pub trait Outside<C, E> {
 
     /// Reads the clock.
     fn now(&mut self) -> Moment
-        ensures { tells self.old result self.new };
+        ensures { reports self.old result self.new };
 
     /// Begins to check a connection.
     fn is_valid(&mut self, connection: &mut C) -> Self::Checking

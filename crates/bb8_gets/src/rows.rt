@@ -32,21 +32,21 @@ pub fn ask<C, V, P, E, X: Outside<C, E, Checking = V>>(
     let Taken {
         key,
         mut connection,
-        part,
+        permit,
     } = taken;
     let broken = pool.has_broken(&mut connection);
     Returned {
         taken: Taken {
             key,
             connection,
-            part,
+            permit,
         },
         broken,
     }
 }
 
 /// Drops a connection after a step.
-fn drop_it<C, V, P, E, X: GetHome<C, Part = P> + Outside<C, E, Checking = V>>(
+fn drop_it<C, V, P, E, X: GetHome<C, Permit = P> + Outside<C, E, Checking = V>>(
     pool: &mut X,
     connection: C,
 )
@@ -65,7 +65,7 @@ fn closed<C>(answer: CheckedErrAnswer<C>) -> C
 }
 
 /// Handles a check that failed with this error.
-fn fail<C, V, P, E, X: GetHome<C, Part = P> + Outside<C, E, Checking = V>>(
+fn fail<C, V, P, E, X: GetHome<C, Permit = P> + Outside<C, E, Checking = V>>(
     pool: &mut X,
     moment: Moment,
     begun: Begun,
@@ -90,7 +90,7 @@ fn fail<C, V, P, E, X: GetHome<C, Part = P> + Outside<C, E, Checking = V>>(
 
 /// Polls a check once.
 #[inline(always)]
-fn check<C, V, P, E, X: GetHome<C, Part = P> + Outside<C, E, Checking = V>>(
+fn check<C, V, P, E, X: GetHome<C, Permit = P> + Outside<C, E, Checking = V>>(
     pool: &mut X,
     moment: Moment,
     begun: Begun,
@@ -105,26 +105,26 @@ fn check<C, V, P, E, X: GetHome<C, Part = P> + Outside<C, E, Checking = V>>(
     let Taken {
         key,
         mut connection,
-        part,
+        permit,
     } = taken;
     match pool.poll_valid(&mut connection, &mut checking, moment) {
         Poll::Pending => {
             let taken = Taken {
                 key,
                 connection,
-                part,
+                permit,
             };
             Next::Stand(Stage::Checking(begun, CheckUnderWay { taken, checking }))
         }
         Poll::Ready(Ok(())) => {
             pool.end_check(checking);
-            match pool.checked_ok(moment, begun.get, key, part) {
+            match pool.checked_ok(moment, begun.get, key, permit) {
                 Ok(passed) => {
-                    let Passed { key, part } = passed;
+                    let Passed { key, permit } = passed;
                     Next::Answer(Ok(Taken {
                         key,
                         connection,
-                        part,
+                        permit,
                     }))
                 }
                 Err(Unfit) => {
@@ -138,7 +138,7 @@ fn check<C, V, P, E, X: GetHome<C, Part = P> + Outside<C, E, Checking = V>>(
             let taken = Taken {
                 key,
                 connection,
-                part,
+                permit,
             };
             fail(pool, moment, begun, taken, error)
         }
@@ -147,7 +147,7 @@ fn check<C, V, P, E, X: GetHome<C, Part = P> + Outside<C, E, Checking = V>>(
 
 /// Handles the result of a try. A connection that must be checked is polled in the same poll.
 #[inline(always)]
-fn tried<C, V, P, E, X: GetHome<C, Part = P> + Outside<C, E, Checking = V>>(
+fn tried<C, V, P, E, X: GetHome<C, Permit = P> + Outside<C, E, Checking = V>>(
     pool: &mut X,
     moment: Moment,
     begun: Begun,
@@ -161,14 +161,14 @@ fn tried<C, V, P, E, X: GetHome<C, Part = P> + Outside<C, E, Checking = V>>(
             let Taken {
                 key,
                 mut connection,
-                part,
+                permit,
             } = taken;
             pool.release();
             let checking = pool.is_valid(&mut connection);
             let taken = Taken {
                 key,
                 connection,
-                part,
+                permit,
             };
             check(pool, moment, begun, CheckUnderWay { taken, checking })
         }
@@ -179,7 +179,7 @@ fn tried<C, V, P, E, X: GetHome<C, Part = P> + Outside<C, E, Checking = V>>(
 
 /// Makes one try of a get that has begun.
 #[inline(always)]
-fn take<C, V, P, E, X: GetHome<C, Part = P> + Outside<C, E, Checking = V>>(
+fn take<C, V, P, E, X: GetHome<C, Permit = P> + Outside<C, E, Checking = V>>(
     pool: &mut X,
     moment: Moment,
     begun: Begun,
@@ -192,7 +192,7 @@ fn take<C, V, P, E, X: GetHome<C, Part = P> + Outside<C, E, Checking = V>>(
 
 /// Makes a later poll of a get that holds no connection: it tries, or ends if no handle is alive.
 #[inline(always)]
-fn retry<C, V, P, E, X: GetHome<C, Part = P> + Outside<C, E, Checking = V>>(
+fn retry<C, V, P, E, X: GetHome<C, Permit = P> + Outside<C, E, Checking = V>>(
     pool: &mut X,
     seen: Looked,
     begun: Begun,
@@ -208,7 +208,7 @@ fn retry<C, V, P, E, X: GetHome<C, Part = P> + Outside<C, E, Checking = V>>(
 
 /// Handles the result of a get's begin and first try.
 #[inline(always)]
-pub(crate) fn follow<C, V, P, E, X: GetHome<C, Part = P> + Outside<C, E, Checking = V>>(
+pub(crate) fn follow<C, V, P, E, X: GetHome<C, Permit = P> + Outside<C, E, Checking = V>>(
     pool: &mut X,
     moment: Moment,
     timeout: Duration,
@@ -230,7 +230,7 @@ pub(crate) fn follow<C, V, P, E, X: GetHome<C, Part = P> + Outside<C, E, Checkin
 
 /// Makes the first poll of a get: it begins and tries.
 #[inline(always)]
-fn start<C, V, P, E, X: GetHome<C, Part = P> + Outside<C, E, Checking = V>>(
+fn start<C, V, P, E, X: GetHome<C, Permit = P> + Outside<C, E, Checking = V>>(
     pool: &mut X,
     moment: Moment,
     timeout: Duration,
@@ -243,7 +243,7 @@ fn start<C, V, P, E, X: GetHome<C, Part = P> + Outside<C, E, Checking = V>>(
 }
 
 /// Makes the part of a poll before the deadline is compared.
-fn advance<C, V, P, E, X: GetHome<C, Part = P> + Outside<C, E, Checking = V>>(
+fn advance<C, V, P, E, X: GetHome<C, Permit = P> + Outside<C, E, Checking = V>>(
     pool: &mut X,
     seen: Looked,
     timeout: Duration,
@@ -264,7 +264,7 @@ fn advance<C, V, P, E, X: GetHome<C, Part = P> + Outside<C, E, Checking = V>>(
 }
 
 /// Handles the result of a get that gave up: drops a connection that was closed.
-fn after<C, V, P, E, X: GetHome<C, Part = P> + Outside<C, E, Checking = V>>(
+fn after<C, V, P, E, X: GetHome<C, Permit = P> + Outside<C, E, Checking = V>>(
     pool: &mut X,
     answer: GiveUpAnswer<C>,
 )
@@ -277,7 +277,7 @@ fn after<C, V, P, E, X: GetHome<C, Part = P> + Outside<C, E, Checking = V>>(
 }
 
 /// Ends a get that holds no connection and is not served.
-pub(crate) fn leave<C, V, P, E, X: GetHome<C, Part = P> + Outside<C, E, Checking = V>>(
+pub(crate) fn leave<C, V, P, E, X: GetHome<C, Permit = P> + Outside<C, E, Checking = V>>(
     pool: &mut X,
     moment: Moment,
     get: GetKey,
@@ -292,7 +292,7 @@ pub(crate) fn leave<C, V, P, E, X: GetHome<C, Part = P> + Outside<C, E, Checking
 }
 
 /// Ends a get that held a connection and is not served; `has_broken` has been called already.
-pub(crate) fn take_back<C, V, P, E, X: GetHome<C, Part = P> + Outside<C, E, Checking = V>>(
+pub(crate) fn take_back<C, V, P, E, X: GetHome<C, Permit = P> + Outside<C, E, Checking = V>>(
     pool: &mut X,
     moment: Moment,
     get: GetKey,
@@ -308,7 +308,7 @@ pub(crate) fn take_back<C, V, P, E, X: GetHome<C, Part = P> + Outside<C, E, Chec
 }
 
 /// Ends a get whose deadline has passed.
-fn time_out<C, V, P, E, X: GetHome<C, Part = P> + Outside<C, E, Checking = V>>(
+fn time_out<C, V, P, E, X: GetHome<C, Permit = P> + Outside<C, E, Checking = V>>(
     pool: &mut X,
     moment: Moment,
     stage: Stage<C, V, P>,
@@ -330,7 +330,7 @@ fn time_out<C, V, P, E, X: GetHome<C, Part = P> + Outside<C, E, Checking = V>>(
 }
 
 /// Ends a poll without a result: compares the deadline.
-pub(crate) fn settle<C, V, P, E, X: GetHome<C, Part = P> + Outside<C, E, Checking = V>>(
+pub(crate) fn settle<C, V, P, E, X: GetHome<C, Permit = P> + Outside<C, E, Checking = V>>(
     pool: &mut X,
     moment: Moment,
     stage: Stage<C, V, P>,
@@ -358,7 +358,7 @@ pub(crate) fn settle<C, V, P, E, X: GetHome<C, Part = P> + Outside<C, E, Checkin
 
 /// Ends a poll: it has a result, or its deadline is compared.
 #[inline(always)]
-fn end<C, V, P, E, X: GetHome<C, Part = P> + Outside<C, E, Checking = V>>(
+fn end<C, V, P, E, X: GetHome<C, Permit = P> + Outside<C, E, Checking = V>>(
     pool: &mut X,
     moment: Moment,
     next: Next<C, V, P, E>,
@@ -376,7 +376,7 @@ fn end<C, V, P, E, X: GetHome<C, Part = P> + Outside<C, E, Checking = V>>(
 
 /// Makes a first poll, after the `look`.
 #[inline(always)]
-pub(crate) fn begin<C, V, P, E, X: GetHome<C, Part = P> + Outside<C, E, Checking = V>>(
+pub(crate) fn begin<C, V, P, E, X: GetHome<C, Permit = P> + Outside<C, E, Checking = V>>(
     pool: &mut X,
     moment: Moment,
     timeout: Duration,
@@ -389,7 +389,7 @@ pub(crate) fn begin<C, V, P, E, X: GetHome<C, Part = P> + Outside<C, E, Checking
 }
 
 /// Makes a poll of a get that is not done: reads the clock, looks, and continues.
-pub(crate) fn go<C, V, P, E, X: GetHome<C, Part = P> + Outside<C, E, Checking = V>>(
+pub(crate) fn go<C, V, P, E, X: GetHome<C, Permit = P> + Outside<C, E, Checking = V>>(
     pool: &mut X,
     timeout: Duration,
     stage: Stage<C, V, P>,

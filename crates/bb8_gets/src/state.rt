@@ -79,11 +79,10 @@ pub struct Settled<C, V, P, E> {
     pub stage: Stage<C, V, P>,
 }
 
-/// A get: what its future holds beside the pool. Its connection is a `C`, its check a `V`, its
-/// permit a `P`.
+/// The state of a get, in its future. Its connection is a `C`, its check a `V`, its permit a `P`.
 ///
 /// It does nothing until it is polled. It cannot be dropped, only cancelled by `cancel_step`,
-/// because its home takes back what it holds.
+/// because its home takes its connection back.
 pub struct GetState<C, V, P> {
     stage: Stage<C, V, P>,
 }
@@ -121,7 +120,7 @@ impl<C, V, P> GetState<C, V, P> {
     /// Returns a connection; `TimedOut` after the deadline, or if the home knows no such get or no
     /// handle; `Memory` or `Exhausted` if the get could not begin. After a result each poll is
     /// pending and makes no call.
-    pub fn poll_step<E, X: GetHome<C, Part = P> + Outside<C, E, Checking = V>>(
+    pub fn poll_step<E, X: GetHome<C, Permit = P> + Outside<C, E, Checking = V>>(
         &mut self,
         pool: &mut X,
         timeout: Duration,
@@ -140,7 +139,7 @@ impl<C, V, P> GetState<C, V, P> {
 
     /// As `poll_step`, but consumes its home. A get that is served at once stores none of it.
     #[inline(always)]
-    pub fn poll_with<E, X: GetHome<C, Part = P> + Outside<C, E, Checking = V> + LetGo>(
+    pub fn poll_with<E, X: GetHome<C, Permit = P> + Outside<C, E, Checking = V> + LetGo>(
         &mut self,
         mut pool: X,
         timeout: Duration,
@@ -175,7 +174,7 @@ impl<C, V, P> GetState<C, V, P> {
 
     /// Completes a first poll whose get has begun and tried, and consumes its home.
     #[inline(never)]
-    fn follow_with<E, X: GetHome<C, Part = P> + Outside<C, E, Checking = V> + LetGo>(
+    fn follow_with<E, X: GetHome<C, Permit = P> + Outside<C, E, Checking = V> + LetGo>(
         &mut self,
         mut pool: X,
         moment: Moment,
@@ -204,7 +203,7 @@ impl<C, V, P> GetState<C, V, P> {
 
     /// As `poll_step`, but consumes its home.
     #[inline(never)]
-    fn go_on<E, X: GetHome<C, Part = P> + Outside<C, E, Checking = V> + LetGo>(
+    fn go_on<E, X: GetHome<C, Permit = P> + Outside<C, E, Checking = V> + LetGo>(
         &mut self,
         mut pool: X,
         timeout: Duration,
@@ -219,7 +218,7 @@ impl<C, V, P> GetState<C, V, P> {
 
     /// Makes a first poll at the moment of a `look` made before: the get begins and tries.
     #[inline(always)]
-    pub fn start_step<E, X: GetHome<C, Part = P> + Outside<C, E, Checking = V>>(
+    pub fn start_step<E, X: GetHome<C, Permit = P> + Outside<C, E, Checking = V>>(
         &mut self,
         pool: &mut X,
         moment: Moment,
@@ -255,7 +254,10 @@ impl<C, V, P> GetState<C, V, P> {
     /// Cancels the get, if it has begun and has no result, at a reading of the clock. If it holds a
     /// connection, `has_broken` is called first. No call is made if it was not polled yet or has a
     /// result. This is what a drop of its future does; in bb8 the caller drops the future.
-    pub fn cancel_step<E, X: GetHome<C, Part = P> + Outside<C, E, Checking = V>>(self, pool: &mut X)
+    pub fn cancel_step<E, X: GetHome<C, Permit = P> + Outside<C, E, Checking = V>>(
+        self,
+        pool: &mut X,
+    )
         ensures { Cancels X.GetHome X.Outside self.stage pool.old pool.new }
     {
         let GetState { stage } = self;
@@ -270,7 +272,7 @@ impl<C, V, P> GetState<C, V, P> {
 
     /// As `cancel_step`, but consumes its home.
     #[inline(always)]
-    pub fn cancel_with<E, X: GetHome<C, Part = P> + Outside<C, E, Checking = V> + LetGo>(
+    pub fn cancel_with<E, X: GetHome<C, Permit = P> + Outside<C, E, Checking = V> + LetGo>(
         self,
         pool: X,
     )
@@ -286,7 +288,7 @@ impl<C, V, P> GetState<C, V, P> {
 
 /// Cancels a get that has begun, and consumes its home.
 #[inline(never)]
-fn cancel_begun<C, V, P, E, X: GetHome<C, Part = P> + Outside<C, E, Checking = V> + LetGo>(
+fn cancel_begun<C, V, P, E, X: GetHome<C, Permit = P> + Outside<C, E, Checking = V> + LetGo>(
     mut pool: X,
     get: GetState<C, V, P>,
 )
@@ -298,7 +300,7 @@ fn cancel_begun<C, V, P, E, X: GetHome<C, Part = P> + Outside<C, E, Checking = V
 
 /// Cancels a get that has begun and holds no connection.
 #[inline(never)]
-fn cancel_free<C, V, P, E, X: GetHome<C, Part = P> + Outside<C, E, Checking = V>>(
+fn cancel_free<C, V, P, E, X: GetHome<C, Permit = P> + Outside<C, E, Checking = V>>(
     pool: &mut X,
     get: GetKey,
 )
@@ -310,7 +312,7 @@ fn cancel_free<C, V, P, E, X: GetHome<C, Part = P> + Outside<C, E, Checking = V>
 
 /// Cancels a get whose connection is being checked.
 #[inline(never)]
-fn cancel_held<C, V, P, E, X: GetHome<C, Part = P> + Outside<C, E, Checking = V>>(
+fn cancel_held<C, V, P, E, X: GetHome<C, Permit = P> + Outside<C, E, Checking = V>>(
     pool: &mut X,
     get: GetKey,
     held: CheckUnderWay<C, V, P>,

@@ -134,7 +134,7 @@ accounts i (e ∷ es) A all len =
     others : (x : Line) → Contains (lines_from (i + 1) es) x → Contains (remove A at.0) x
     others x h = pick x h (contains_cases b x (remove A at.0) (Contains-permutation A (b ∷ remove A at.0) x first (all x (contains_later b x (lines_from (i + 1) es) h))))
 
--- Notes of which none is missing, that are as many as the entries, and among which each entry has
+-- Notes that are complete, that are as many as the entries, and among which each entry has
 -- its line, account for the history.
 pub accounted : (es : List Entry) (notes : List Notes) → All (λ n. n.missing ≡ 0) notes → sum_by (λ n. length n.noted.items) notes ≡ length es
     → All (Contains (lines_noted notes)) (lines_from 0 es) → IsAccount es notes

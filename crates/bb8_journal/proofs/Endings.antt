@@ -1,5 +1,5 @@
 -- How many ending events may still come, step by step.
-use Rattle.bb8_journal.proofs.Words.{◌≡◌, ℕ, ◌+◌, ◌<◌, ◌≤◌, max, Bool, true, false, ◌&&◌, ltb, is_some, refl, sym, ap, ◌∙◌, subst, arith, nat_tests, Told, Act, Ledger, Later, start, position, latest, handles, gets, alive, get_of, new_get, Row, begins, waits_on, serves, takes_out, waits, checks, check_fails, gives_up, gives_up_kept, gives_up_closed, keeps, returns_closed, detaches, opens, adds, leaves, shuts, fits, Allowed, IsLegal, and_right, none_lent, StateView, HasLedger, act_of, answer_of, Happens, IsTaken, endings_of, unfit_now}
+use Rattle.bb8_journal.proofs.Words.{◌≡◌, ℕ, ◌+◌, ◌<◌, ◌≤◌, max, Bool, true, false, ◌&&◌, ltb, is_some, refl, sym, ap, ◌∙◌, subst, arith, nat_tests, ReplayAnswer, Act, Ledger, Later, start, position, latest, handles, gets, alive, get_of, new_get, Row, begins, waits_on, serves, takes_out, waits, checks, check_fails, gives_up, gives_up_kept, gives_up_closed, keeps, returns_closed, detaches, evicts, opens, adds, leaves, shuts, fits, Allowed, IsLegal, and_right, StateView, HasLedger, act_of, answer_of, Happens, IsTaken, endings_of, unfit_now}
 use Rattle.bb8_core.specs.declared.replay.events.Act.{Act as Named}
 use Rattle.bb8_core.specs.declared.replay.events.Act.TheVariants as named
 use Rattle.bb8_ledger.specs.Answers.{Answer}
@@ -8,8 +8,9 @@ use Rattle.bb8_ledger.proofs.Waiters.{begins_alive, notify_alive}
 use Rattle.bb8_ledger.proofs.Effects.{by_fit}
 use Rattle.bb8_ledger.proofs.GetEffects.{given_up_sums, trier_leaves, trier_holds, holder_ends, holder_turns, left_alive, left_told_alive}
 use Rattle.bb8_core.proofs.Fitting.{shown}
-use Rattle.bb8_core.specs.Parts.{out_of}
-use Rattle.bb8_core.proofs.Parts.{going, coming, counted_at}
+use Rattle.bb8_core.specs.StepBounds.{out_of}
+use Rattle.bb8_core.proofs.StepBounds.{going, coming}
+use Rattle.bb8_journal.proofs.Moves.{moves_shown}
 use Rattle.bb8_journal.specs.Endings.{is_ending, is_named_ending, CountsDown}
 
 -- a handle is alive
@@ -38,6 +39,7 @@ module _ {C : Type 0} where
   row_ends l at _ _ before after f (keeps {n = n} keep is) moves = omega (arith, notify_alive (start l).first_get n (gets l))
   row_ends l at _ _ before after f (returns_closed {n = n} shut want is) moves = omega (arith, notify_alive (start l).first_get n (gets l))
   row_ends l at _ _ before after f (detaches {n = n} want is) moves = omega (arith, notify_alive (start l).first_get n (gets l))
+  row_ends l at _ _ before after f (evicts {n = n} want is) moves = omega (arith, notify_alive (start l).first_get n (gets l))
   row_ends l at _ _ before after f (opens {n = n} some is) moves = omega (arith, notify_alive (start l).first_get n (gets l))
   row_ends l at _ _ before after f (adds {n = n} room few is who) moves = omega (arith, notify_alive (start l).first_get n (gets l))
   row_ends l at _ _ before after f (leaves is) moves = omega (arith, is_open (handles l) f)
@@ -51,12 +53,12 @@ module _ {C : Type 0} where
   ends_at l at e a legal allowed =
       by_fit (fits l e) _ _ (CountsDown (fits l e && is_ending e) (endings_of (shown l)) (endings_of (shown (Later l at e a)))) allowed
       (λ t row. subst (λ (b : Bool). CountsDown (b && is_ending e) (endings_of (shown l)) (endings_of (shown (Later l at e a)))) (sym t)
-      (row_ends l at e a (out_of (shown l)) (out_of (shown (Later l at e a))) t row (counted_at l at e a none_lent none_lent legal allowed).moves))
+      (row_ends l at e a (out_of (shown l)) (out_of (shown (Later l at e a))) t row (moves_shown l at e a legal allowed)))
       (λ t is. subst (λ (b : Bool). CountsDown (b && is_ending e) (endings_of (shown l)) (endings_of (shown (Later l at e a)))) (sym t)
       (let same : endings_of (shown (Later l at e a)) ≡ endings_of (shown l) =
       ap (λ (b : Answer). endings_of (shown (Later l at e b))) is ∙ ap endings_of (unfit_now l (shown l) at e t refl).1 in omega arith))
 
--- a named event is an ending one just where the event that it stands for is
+-- a named event is an ending one just if the event that it means is
 named_ending : (l : Ledger ℕ) (e : Named) → is_ending (act_of l e) ≡ is_named_ending e
 named_ending l named.Begin = refl
 named_ending l _ = refl
@@ -67,14 +69,14 @@ at_most true before after h = omega arith
 at_most false before after h = h
 
 -- In a replay an event leaves at most one ending event more to come.
-pub one_more : (old : StateView ℕ) (at : ℕ) (e : Named) (a : Told) (new : StateView ℕ) → HasLedger old → Happens old at e a new → endings_of new ≤ endings_of old + 1
+pub one_more : (old : StateView ℕ) (at : ℕ) (e : Named) (a : ReplayAnswer) (new : StateView ℕ) → HasLedger old → Happens old at e a new → endings_of new ≤ endings_of old + 1
 one_more old at e a new h happens =
     let m = happens h.0 h.1 h.2 in
     at_most (fits h.0 (act_of h.0 e) && is_ending (act_of h.0 e)) _ _
     (ends_shown _ _ _ _ _ (ap endings_of h.2) (ap endings_of m.1) (ends_at h.0 at (act_of h.0 e) (answer_of a) h.1 m.0))
 
 -- An ending event that is taken leaves fewer.
-pub one_less : (old : StateView ℕ) (at : ℕ) (e : Named) (a : Told) (new : StateView ℕ) → HasLedger old → Happens old at e a new
+pub one_less : (old : StateView ℕ) (at : ℕ) (e : Named) (a : ReplayAnswer) (new : StateView ℕ) → HasLedger old → Happens old at e a new
     → IsTaken old e → is_named_ending e ≡ true → endings_of new + 1 ≤ endings_of old
 one_less old at e a new h happens taken ending =
     let m = happens h.0 h.1 h.2 in

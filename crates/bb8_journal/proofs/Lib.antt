@@ -1,4 +1,5 @@
 pub mod Endings
+mod Moves
 pub mod Histories
 pub mod Accounts
 mod Words

@@ -1,4 +1,4 @@
--- Ending events: those for whose entries a journal reserves room.
+-- Ending events: those for whose entries a journal reserves memory.
 use Rattle.std.specs.Prelude.{◌+◌, ◌≤◌, ℕ, Bool, true, false}
 use Rattle.std.specs.Bool.{MatchBool}
 use Rattle.bb8_core.specs.declared.replay.events.Act.{Act as Named}

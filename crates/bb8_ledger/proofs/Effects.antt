@@ -52,7 +52,7 @@ module _ {C : Type 0} where
       let before : P l = each_legal P opening unfit row l legal.0 in
       each_allowed (λ b. P (Later l at e b)) l at e a legal.1 (unfit l at e before) (λ f r. row l at e a legal.0 f r before)
 
-  -- ---- where a record stands
+  -- ---- the state of a record
 
   -- whether a place passes, where there is one
   abbrev pub passes : (Place C → Bool) → Option (Place C) → Bool
@@ -68,7 +68,7 @@ module _ {C : Type 0} where
   stands_by_place test None = refl
   stands_by_place test (Some s) = refl
 
-  -- the record k, which stood at a place, is changed, and then stands at another or has ended
+  -- the record k, which had a state, is changed, and then has another or has ended
   pub record Turns (l : Ledger C) (k : ℕ) (p : Place C) (q : Option (Place C)) (f : Numbered (Standing C) → Numbered (Standing C)) : Type 0 where
     pub standing : Standing C
     pub was : record_of l k ≡ Some standing
@@ -79,7 +79,7 @@ module _ {C : Type 0} where
   pub to_place : (p : Place C) (s : Standing C) (r : Numbered (Standing C)) → r.standing ≡ Some s → place_of (at_place p r).standing ≡ Some p
   to_place p s r e = ap (λ (o : Option (Standing C)). place_of (option_map (with_place p) o)) e
 
-  -- a record that a test tells the place of
+  -- a record whose state a test decides
   turns_by : (l : Ledger C) (k : ℕ) (test : Place C → Bool) (p : Place C) (q : Option (Place C))
       (f : Numbered (Standing C) → Numbered (Standing C)) → ((x : Place C) → test x ≡ true → x ≡ p) → stands test (record_of l k) ≡ true
       → ((s : Standing C) (r : Numbered (Standing C)) → r.standing ≡ Some s → place_of (f r).standing ≡ q) → Turns l k p q f
@@ -109,6 +109,10 @@ module _ {C : Type 0} where
   pub closes_turn : (l : Ledger C) (k : ℕ) → stands is_guarded (record_of l k) ≡ true → Turns l k Guarded None after_end
   closes_turn l k f = turns_by l k is_guarded Guarded None after_end guarded_is f (λ s r e. refl)
 
+  -- an idle record ends
+  pub evicts_turn : (l : Ledger C) (k : ℕ) → stands is_idle (record_of l k) ≡ true → (c : C) × Turns l k (Idle c) None after_end
+  evicts_turn l k f = grind (arith, standing_is, idle_is)
+
   -- a claimed approval brings its connection, or ends
   pub opens_turn : (l : Ledger C) (at k : ℕ) (c : C) → stands is_claimed (record_of l k) ≡ true → Turns l k Claimed (Some (Idle c)) (λ r. entry c (max (latest l) at) (max (latest l) at) (position l))
   opens_turn l at k c f = turns_by l k is_claimed Claimed (Some (Idle c)) (λ r. entry c (max (latest l) at) (max (latest l) at) (position l)) claimed_is f (λ s r e. refl)
@@ -116,7 +120,7 @@ module _ {C : Type 0} where
   pub ends_turn : (l : Ledger C) (k : ℕ) → stands is_claimed (record_of l k) ≡ true → Turns l k Claimed None after_end
   ends_turn l k f = turns_by l k is_claimed Claimed None after_end claimed_is f (λ s r e. refl)
 
-  -- ---- how many stand where
+  -- ---- how many are where
 
   -- The records once one has moved from a place, or from nowhere, to a place, or to nowhere; more
   -- of them, and so many new approvals.
@@ -160,7 +164,7 @@ module _ {C : Type 0} where
       let more : (test : Place C → Bool) → tally_places test (records l ++ new ∷ []) ≡ tally_places test (records l) + one (test (Idle c)) = λ test. appended_tally test (records l) new in
       omega (arith, more is_conn, more is_approval, more is_idle, more is_out, length-append (records l) (new ∷ []))
 
-  -- What stands where once so many approvals are made.
+  -- The state of each record once so many approvals are made.
   pub record Approved (n : ℕ) (rs new : List (Numbered (Standing C))) : Type 0 where
     pub conns_are : conns_of new ≡ conns_of rs
     pub approved_are : approved_of new ≡ approved_of rs + n
@@ -259,7 +263,7 @@ module _ {C : Type 0} where
     pub many_are : length rs ≡ length (records l) + n
     pub few : life ≤ closed
 
-  -- those of a list of numbers end, none of which is the first of the row
+  -- those of a list of numbers end, and none is the first of the row
   ended_skip : (ks : List ℕ) (n : ℕ) (r : Numbered (Standing C)) (rs : List (Numbered (Standing C))) → ((j k : ℕ) → slice_get ks j ≡ Some k → n < k)
       → with_ended n ks (r ∷ rs) ≡ r ∷ with_ended (suc n) ks rs
   ended_skip [] n r rs above = refl
@@ -330,7 +334,7 @@ module _ {C : Type 0} where
 
   -- ---- some of a line end, from its front
 
-  -- a line of idle records, of which the first one leaves it by its end
+  -- a queue of idle records, which the first one leaves by its end
   pub record IsLine (first : ℕ) (line : List (Numbered (Standing C)) → List ℕ) : Type 0 where
     pub idle : (rs : List (Numbered (Standing C))) (k : ℕ) (rest : List ℕ) → line rs ≡ k ∷ rest → stands is_idle (standing_at first rs k) ≡ true
     pub leaves : (rs : List (Numbered (Standing C))) (k : ℕ) (rest : List ℕ) → line rs ≡ k ∷ rest → line (update first k after_end rs) ≡ rest

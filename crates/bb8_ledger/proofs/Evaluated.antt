@@ -1,9 +1,9 @@
 -- Which row of the step table an answer is, as a function that computes: so a worked row is settled
 -- by evaluation.
-use Rattle.bb8_ledger.proofs.Words.{◌≡◌, ◌≢◌, ℕ, suc, ◌+◌, ◌-◌, ◌<◌, ◌≤◌, min, max, Bool, true, false, eqb, ltb, leb, cond, List, [], ◌∷◌, Option, Some, None, is_some, option_map, slice_get, length, refl, ap, sym, subst, false≢true, eqb-true, eqb-false, ltb-true, leb-true, leb-false, Grant, Standing, Guarded, Held, Numbered, one, after_end, Act, Begin, Try, CheckedOk, CheckedErr, GiveUp, PutBack, Detach, Fill, Ask, Claim, Opened, Failed, Add, Reap, Retire, Join, Leave, Close, Look, Answer, Begun, Memory, Exhausted, Served, Taken, Kept, Closed, GaveUp, Granted, Ended, Entered, Late, GivenBack, Added, Broken, NoCapacity, Withheld, Reaped, Joined, Left, Looked, Unfit, with_ended, Ledger, Later, start, latest, records, handles, next, next_get, conns, approved, conns_of, approved_of, idle_of, alive, idle_count, first_idle, oldest_waiter, unclaimed, peak, get_peak, get_of, at_place, figures, opening_with, asks_check, gets_stand, holds, is_unnotified, is_notified, Row, begins, begin_refused, begin_exhausted, waits_on, serves, takes_out, waits, checks, check_fails, gives_up, gives_up_kept, gives_up_closed, keeps, returns_closed, detaches, fills, asks_for, unprovided, claims, claim_ended, opens, opens_late, fails, add_broken, add_full, add_exhausted, add_refused, adds, reap_ended, reaps, retire_ended, retires, retired_at, joins, join_exhausted, leaves, shuts, looks, IsWant, fits, with_record, closes, comes_late, reaped_at, outlived_at, idled_at, leave_count, IsGranted, IsNoGrant, numbers_left, due, lacking, Settings, is_lawful, Figures, Told, AreAllowed, IsRow, first_waits, IsBackOff, IsMostWaits, sum_of_waits, end_of_numbers, most_handles, Waiting, Claimed, after, is_doubtful}
+use Rattle.bb8_ledger.proofs.Words.{◌≡◌, ◌≢◌, ℕ, suc, ◌+◌, ◌-◌, ◌<◌, ◌≤◌, min, max, Bool, true, false, eqb, ltb, leb, cond, List, [], ◌∷◌, Option, Some, None, is_some, option_map, slice_get, length, refl, ap, sym, subst, false≢true, eqb-true, eqb-false, ltb-true, leb-true, leb-false, Grant, Standing, Guarded, Held, Numbered, one, after_end, Act, Begin, Try, CheckedOk, CheckedErr, GiveUp, PutBack, Detach, Evict, Fill, Ask, Claim, Opened, Failed, Add, Reap, Retire, Join, Leave, Close, Look, Answer, Begun, Memory, Exhausted, Served, Taken, Kept, Closed, GaveUp, Granted, Ended, Entered, Late, GivenBack, Added, Broken, NoCapacity, Withheld, Reaped, Joined, Left, Looked, Unfit, with_ended, Ledger, Later, start, latest, records, handles, next, next_get, conns, approved, conns_of, approved_of, idle_of, alive, idle_count, first_idle, oldest_waiter, unclaimed, peak, get_peak, get_of, at_place, figures, opening_with, asks_check, gets_stand, holds, is_unnotified, is_notified, Row, begins, begin_refused, begin_exhausted, waits_on, serves, takes_out, waits, checks, check_fails, gives_up, gives_up_kept, gives_up_closed, keeps, returns_closed, detaches, evicts, fills, asks_for, unprovided, claims, claim_ended, opens, opens_late, fails, add_broken, add_full, add_exhausted, add_refused, adds, reap_ended, reaps, retire_ended, retires, retired_at, joins, join_exhausted, leaves, shuts, looks, IsWant, fits, with_record, closes, comes_late, reaped_at, outlived_at, idled_at, leave_count, IsGranted, IsNoGrant, numbers_left, due, lacking, Settings, is_lawful, Figures, RowLine, AreAllowed, IsRow, first_waits, IsBackOff, IsMostWaits, sum_of_waits, end_of_numbers, most_handles, Waiting, Claimed, after, is_doubtful}
 use Rattle.std.specs.Bool.{MatchBool}
 
--- ---- tests, and what follows from what each tells
+-- ---- tests, and what follows from their results
 
 module _ {P : Type 0} where
   abbrev either : (b : Bool) → (b ≡ true → Option P) → (b ≡ false → Option P) → Option P
@@ -114,6 +114,8 @@ module _ {C : Type 0} where
       (when (closes l at k broken) (λ shut. when_wanted l (with_record l k after_end) grant (λ want. when_told l n (λ is. Some (returns_closed shut want is)))))
   row_of l at (Detach k) (Closed m grant n) = moved m k (λ q. Row l at (Detach k) (Closed q grant n))
       (when_wanted l (with_record l k after_end) grant (λ want. when_told l n (λ is. Some (detaches want is))))
+  row_of l at (Evict k) (Closed m grant n) = moved m k (λ q. Row l at (Evict k) (Closed q grant n))
+      (when_wanted l (with_record l k after_end) grant (λ want. when_told l n (λ is. Some (evicts want is))))
   row_of l at (Fill claimed) (Granted grant) = when_wanted l (records l) grant (λ want. Some (fills want))
   row_of l at Ask (Granted grant) = when_granted (next l) (conns l + approved l) (peak l)
       (due (start l).config (handles l) (conns l + approved l) (unprovided l)) grant (λ asked. Some (asks_for asked))
@@ -147,20 +149,20 @@ module _ {C : Type 0} where
   row_of l at _ _ = None
 
 -- that the whole table allows each answer of a row
-abbrev pub all_allowed : (l : Ledger ℕ) (told : List Told) → Option (AreAllowed l told)
+abbrev pub all_allowed : (l : Ledger ℕ) (lines : List RowLine) → Option (AreAllowed l lines)
 all_allowed l [] = Some tt
-all_allowed l (t ∷ told) = pair (matched (fits l t.act) (row_of l t.at t.act t.answer) (unfit t.answer)) (all_allowed (Later l t.at t.act t.answer) told)
+all_allowed l (t ∷ lines) = pair (matched (fits l t.act) (row_of l t.at t.act t.answer) (unfit t.answer)) (all_allowed (Later l t.at t.act t.answer) lines)
 
 -- a worked row, by evaluation
-pub by_evaluation : {config : Settings} {first first_get : ℕ} {told : List Told} {shown : Figures} → is_lawful config ≡ true
-    → is_some (all_allowed (opening_with config first first_get) told) ≡ true → figures (after (opening_with config first first_get) told) ≡ shown
-    → IsRow config first first_get told shown
-by_evaluation {config} {first} {first_get} {told} lawful allowed last =
-    record { lawful = lawful; allowed = found (all_allowed (opening_with config first first_get) told) allowed; last = last }
+pub by_evaluation : {config : Settings} {first first_get : ℕ} {lines : List RowLine} {shown : Figures} → is_lawful config ≡ true
+    → is_some (all_allowed (opening_with config first first_get) lines) ≡ true → figures (after (opening_with config first first_get) lines) ≡ shown
+    → IsRow config first first_get lines shown
+by_evaluation {config} {first} {first_get} {lines} lawful allowed last =
+    record { lawful = lawful; allowed = found (all_allowed (opening_with config first first_get) lines) allowed; last = last }
 
 -- the waits of a back-off, by evaluation
 abbrev most_waits : (timeout n : ℕ) → Option (IsMostWaits timeout n)
 most_waits timeout n = when_most (sum_of_waits timeout n) timeout (λ within. when_less timeout (sum_of_waits timeout (suc n)) (λ past. Some (record { within = within; past = past })))
 
-pub waits_by_evaluation : {timeout : ℕ} {told : List ℕ} {most : ℕ} → first_waits timeout (suc most) ≡ told → is_some (most_waits timeout most) ≡ true → IsBackOff timeout told most
-waits_by_evaluation {timeout} {told} {most} first h = record { first = first; within = found (most_waits timeout most) h }
+pub waits_by_evaluation : {timeout : ℕ} {lines : List ℕ} {most : ℕ} → first_waits timeout (suc most) ≡ lines → is_some (most_waits timeout most) ≡ true → IsBackOff timeout lines most
+waits_by_evaluation {timeout} {lines} {most} first h = record { first = first; within = found (most_waits timeout most) h }

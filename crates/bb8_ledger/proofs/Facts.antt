@@ -1,5 +1,5 @@
 -- What holds of every ledger.
-use Rattle.bb8_ledger.proofs.Words.{◌≡◌, ℕ, suc, ◌+◌, ◌≤◌, max, true, false, List, [], ◌∷◌, length, Option, Some, None, refl, sym, ◌∙◌, arith, option_map, ◌-◌, Place, Unclaimed, Standing, GetPlace, Active, Holding, Getting, QueueStrategy, Fifo, Lifo, Act, Begin, Try, CheckedOk, CheckedErr, GiveUp, PutBack, Detach, Opened, Add, Answer, Begun, Served, Taken, Kept, Closed, GaveUp, Entered, Added, Unfit, Numbered, update, in_order, tally, one, after_end, Ledger, Opening, Later, Start, start, position, latest, records, with_ended, gets, gets_after, conns, approved, conns_of, idle_of, alive, peak, get_peak, idle_at, unnotified_at, at_place, new_get, get_at_place, at_wait, with_notice, idle, idle_count, unnotified, is_unnotified, gets_stand, stands, is_idle, is_conn, is_out, get_with_place, first_of, Before, and_right, standing_is, Waiting}
+use Rattle.bb8_ledger.proofs.Words.{◌≡◌, ℕ, suc, ◌+◌, ◌≤◌, max, true, false, List, [], ◌∷◌, length, Option, Some, None, refl, sym, ◌∙◌, arith, option_map, ◌-◌, Place, Unclaimed, Standing, GetPlace, Active, Holding, Getting, QueueStrategy, Fifo, Lifo, Act, Begin, Try, CheckedOk, CheckedErr, GiveUp, PutBack, Detach, Evict, Opened, Add, Answer, Begun, Served, Taken, Kept, Closed, GaveUp, Entered, Added, Unfit, Numbered, update, in_order, tally, one, after_end, Ledger, Opening, Later, Start, start, position, latest, records, with_ended, gets, gets_after, conns, approved, conns_of, idle_of, alive, peak, get_peak, idle_at, unnotified_at, at_place, new_get, get_at_place, at_wait, with_notice, idle, idle_count, unnotified, is_unnotified, gets_stand, stands, is_idle, is_conn, is_out, get_with_place, first_of, Before, and_right, standing_is, Waiting}
 use Rattle.bb8_types.specs.declared.standing.GetPlace.TheVariants as get_places
 use Rattle.bb8_ledger.specs.Ledger.{waiting}
 use Rattle.bb8_types.proofs.Numbered as numbered
@@ -67,6 +67,7 @@ module _ {C : Type 0} where
   gets_before s m now gs (PutBack k c broken) (Kept j n) b = notify_before s.first_get (suc m) n gs b
   gets_before s m now gs (PutBack k c broken) (Closed j grant n) b = notify_before s.first_get (suc m) n gs b
   gets_before s m now gs (Detach k) (Closed j grant n) b = notify_before s.first_get (suc m) n gs b
+  gets_before s m now gs (Evict k) (Closed j grant n) b = notify_before s.first_get (suc m) n gs b
   gets_before s m now gs (Opened k c) (Entered j n) b = notify_before s.first_get (suc m) n gs b
   gets_before s m now gs (Add c broken) (Added k n) b = notify_before s.first_get (suc m) n gs b
   gets_before s m now gs _ _ b = b

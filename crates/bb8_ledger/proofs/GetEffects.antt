@@ -121,7 +121,7 @@ module _ {C : Type 0} where
     left_in_line : InLine (start l).first_get (position l) (gets l) → InLine (start l).first_get (position l) left_gets
     left_in_line i = line_left (start l).first_get (position l) g f (gets l) left_at.0 left_at.1 (t.out left_at.0) i
 
-    -- the others stand in line as before
+    -- the others are in the queue as before
     pub left_line : InLine (start l).first_get (position l) (gets l) → InLine (start l).first_get (suc (position l)) left_gets
     left_line i = line_later (start l).first_get (position l) left_gets (left_in_line i)
 
@@ -204,7 +204,7 @@ module _ {C : Type 0} where
 abbrev pub held_at : ℕ → List (Numbered Getting) → ℕ → Option ℕ
 held_at first gs q = holds (standing_at first gs q)
 
--- what stands behind a number holds this
+-- what is behind a number holds this
 abbrev behind : Option (Numbered Getting) → Option ℕ
 behind o = holds (option_and_then (λ (x : Numbered Getting). x.standing) o)
 

@@ -1,9 +1,9 @@
--- Where each notification is handed over, who waits is served in order.
-use Rattle.bb8_ledger.proofs.Words.{eq-eqb, ◌≡◌, ◌≢◌, ◌⊎◌, ℕ, suc, ◌+◌, ◌-◌, ◌<◌, ◌≤◌, min, max, Bool, true, false, cond, eqb, List, [], ◌∷◌, length, Option, Some, None, is_some, slice_get, option_map, option_and_then, refl, sym, ap, ◌∙◌, arith, subst, inl, inr, IfSome, GetPlace, Holding, Waiting, Getting, Place, Idle, Standing, Numbered, at, at_number, update, in_order, numbers, tally, one, standing_at, after_end, gets_stand, stands, is_unnotified, is_notified, is_trying, is_idle, get_with_place, unnotified_at, get_at_place, with_notice, entry, Act, Try, Answer, Unfit, Served, Taken, Ledger, Later, start, position, latest, records, gets, next, idle_count, notified, handles, conns, approved, first_idle, record_of, get_of, with_record, Row, begins, waits_on, serves, takes_out, waits, check_fails, gives_up, gives_up_kept, gives_up_closed, keeps, returns_closed, detaches, opens, adds, asks_for, IsLegal, fits, and_right, standing_is, Guarded, MatchBool, Allowed}
+-- If each notification is handed off, waiters are served in order.
+use Rattle.bb8_ledger.proofs.Words.{eq-eqb, ◌≡◌, ◌≢◌, ◌⊎◌, ℕ, suc, ◌+◌, ◌-◌, ◌<◌, ◌≤◌, min, max, Bool, true, false, cond, eqb, List, [], ◌∷◌, length, Option, Some, None, is_some, slice_get, option_map, option_and_then, refl, sym, ap, ◌∙◌, arith, subst, inl, inr, IfSome, GetPlace, Holding, Waiting, Getting, Place, Idle, Standing, Numbered, at, at_number, update, in_order, numbers, tally, one, standing_at, after_end, gets_stand, stands, is_unnotified, is_notified, is_trying, is_idle, get_with_place, unnotified_at, get_at_place, with_notice, entry, Act, Try, Answer, Unfit, Served, Taken, Ledger, Later, start, position, latest, records, gets, next, idle_count, notified, handles, conns, approved, first_idle, record_of, get_of, with_record, Row, begins, waits_on, serves, takes_out, waits, check_fails, gives_up, gives_up_kept, gives_up_closed, keeps, returns_closed, detaches, evicts, opens, adds, asks_for, IsLegal, fits, and_right, standing_is, Guarded, MatchBool, Allowed}
 use Rattle.bb8_ledger.specs.Ledger.{numbered_get}
 use Rattle.bb8_ledger.specs.Limits.{WaitsSince}
 use Rattle.bb8_ledger.specs.Answers as answers
-use Rattle.bb8_ledger.specs.Handed.{told_by, brought_by, just_told, just_brought, waiters, notified_at, oldest_notified, due_try, HandsOver, IsFirst, past, served_up_to, AllWaitBehind, GoesWith, TriesInTurn, AlwaysInTurn, unasked, KeepsOrder, TriesWhenTold, IsOrderly, IsPrompt}
+use Rattle.bb8_ledger.specs.Handed.{notified_by, brought_by, just_notified, just_brought, waiters, notified_at, oldest_notified, due_try, HandsOver, IsFirst, past, served_up_to, AllWaitBehind, GoesWith, TriesInTurn, AlwaysInTurn, unasked, KeepsOrder, TriesWhenNotified, IsOrderly, IsPrompt}
 use Rattle.bb8_ledger.specs.Limits.{lost}
 use Rattle.bb8_ledger.specs.Handed.{missed}
 use Rattle.bb8_types.proofs.Numbered as numbered
@@ -40,7 +40,7 @@ none_else {S} test rs n k m x y none hx on_x hy on_y few = elim (numbered.same_o
 abbrev passes_at : (GetPlace → Bool) → Option (Numbered Getting) → Bool
 passes_at test o = gets_stand test (option_and_then (λ (x : Numbered Getting). x.standing) o)
 
--- the first of those in line is notified once it was told
+-- the first of those in line is notified once a result named it
 told_stands : (first m g : ℕ) (gs : List (Numbered Getting)) → slice_get (in_order unnotified_at first gs m) 0 ≡ Some g
     → gets_stand is_notified (standing_at first (update first g (get_at_place (Waiting true)) gs) g) ≡ true
 told_stands first m g gs is =
@@ -51,7 +51,7 @@ told_stands first m g gs is =
     ∙ ap (λ (o : Option Getting). gets_stand is_notified (option_map (get_with_place (Waiting true)) o)) s.1)
     ∙ ap (λ (b : Bool). cond b true (passes_at is_notified (at first gs g))) (numbered.eqb_self g)
 
--- the oldest waiter is notified once it was told
+-- the oldest waiter is notified once a result named it
 told_is : (first m : ℕ) (n : Option ℕ) (gs : List (Numbered Getting)) (g : ℕ) → n ≡ slice_get (in_order unnotified_at first gs m) 0 → n ≡ Some g
     → gets_stand is_notified (standing_at first (with_notice first n gs) g) ≡ true
 told_is first m None gs g is told = cc
@@ -103,7 +103,7 @@ module _ {C : Type 0} where
   row_brought l at _ _ j legal f _ brought = cc
 
   -- what an event of the table shows then
-  row_shows : (l : Ledger C) (at : ℕ) (e : Act C) (a : Answer) → Row l at e a → (just_told (Later l at e a) ≡ told_by a) × (just_brought (Later l at e a) ≡ brought_by a)
+  row_shows : (l : Ledger C) (at : ℕ) (e : Act C) (a : Answer) → Row l at e a → (just_notified (Later l at e a) ≡ notified_by a) × (just_brought (Later l at e a) ≡ brought_by a)
   row_shows l at _ _ (begins is few) = (refl, refl)
   row_shows l at _ _ _ = (refl, refl)
 
@@ -224,7 +224,7 @@ module _ {C : Type 0} where
           let on = (oldest_first l g legal (due_is l g is).1).0 in
           omega (arith, ap (notified_in l) same ∙ ap one on)
 
-  -- ---- what a history that hands over keeps
+  -- ---- what a history with hand-off keeps
 
   -- Where somebody waits, nothing is idle but what became idle just now; and what is counted of
   -- those who wait.
@@ -249,7 +249,7 @@ module _ {C : Type 0} where
   abbrev IfHanded : (Ledger C → Type 0) → Ledger C → Type 0
   IfHanded P l = HandsOver l → P l
 
-  -- what an event that fitted hands over
+  -- what an event that fitted hands off
   fitted : (l : Ledger C) (at : ℕ) (e : Act C) (a : Answer) → Row l at e a → HandsOver (Later l at e a) → HandsOver l × IsOf (due_try l) e
   fitted l at e _ (begins is few) h = h
   fitted l at e _ _ h = h
@@ -392,7 +392,7 @@ module _ {C : Type 0} where
           let d = due_is l g is in
           omega (arith, d.0, notified_counted l g (oldest_first l g legal d.1).0, ap (λ (o : Option ℕ). one (is_some o)) is)
 
-  -- In a history that hands over who waits is served in order.
+  -- In a history with hand-off waiters are served in order.
   hands_in_order : (l : Ledger C) → IsLegal l → IfHanded KeepsOrder l
   hands_in_order l legal h =
       let i = all_handed l legal h in
@@ -419,8 +419,8 @@ module _ {C : Type 0} where
 
   -- ---- where each get that is notified tries at once
 
-  -- who was told is notified, in any legal ledger
-  row_told : (l : Ledger C) (at : ℕ) (e : Act C) (a : Answer) (g : ℕ) → fits l e ≡ true → Row l at e a → told_by a ≡ Some g → gets_stand is_notified (get_of (Later l at e a) g) ≡ true
+  -- the get that a result names is notified, in any legal ledger
+  row_told : (l : Ledger C) (at : ℕ) (e : Act C) (a : Answer) (g : ℕ) → fits l e ≡ true → Row l at e a → notified_by a ≡ Some g → gets_stand is_notified (get_of (Later l at e a) g) ≡ true
   row_told l at _ _ g f (check_fails {g = q} {k} {n = n} holds_it want is) told =
       let t = (holder_turns l q k holds_it).0 in
       told_is (start l).first_get (position l) n (left_gets t) g (left_oldest t n is) told
@@ -442,37 +442,38 @@ module _ {C : Type 0} where
   row_told l at _ _ g f (keeps {n = n} keep is) told = told_is (start l).first_get (position l) n (gets l) g is told
   row_told l at _ _ g f (returns_closed {n = n} shut want is) told = told_is (start l).first_get (position l) n (gets l) g is told
   row_told l at _ _ g f (detaches {n = n} want is) told = told_is (start l).first_get (position l) n (gets l) g is told
+  row_told l at _ _ g f (evicts {n = n} want is) told = told_is (start l).first_get (position l) n (gets l) g is told
   row_told l at _ _ g f (opens {n = n} in_time is) told = told_is (start l).first_get (position l) n (gets l) g is told
   row_told l at _ _ g f (adds {n = n} room few is who) told = told_is (start l).first_get (position l) n (gets l) g who told
   row_told l at _ _ g f _ told = cc
 
   -- so it may try
-  pub told_tries : (l : Ledger C) (at : ℕ) (e : Act C) (a : Answer) (g : ℕ) → fits l e ≡ true → Row l at e a → told_by a ≡ Some g → fits (Later l at e a) (Try g) ≡ true
+  pub told_tries : (l : Ledger C) (at : ℕ) (e : Act C) (a : Answer) (g : ℕ) → fits l e ≡ true → Row l at e a → notified_by a ≡ Some g → fits (Later l at e a) (Try g) ≡ true
   told_tries l at e a g f row told = notified_tries (get_of (Later l at e a) g) (row_told l at e a g f row told)
 
-  all_told : (l : Ledger C) → IsLegal l → (g : ℕ) → just_told l ≡ Some g → gets_stand is_notified (get_of l g) ≡ true
-  all_told = each_legal (λ l. (g : ℕ) → just_told l ≡ Some g → gets_stand is_notified (get_of l g) ≡ true) (λ s lawful g told. cc) (λ l at e before. before)
+  all_told : (l : Ledger C) → IsLegal l → (g : ℕ) → just_notified l ≡ Some g → gets_stand is_notified (get_of l g) ≡ true
+  all_told = each_legal (λ l. (g : ℕ) → just_notified l ≡ Some g → gets_stand is_notified (get_of l g) ≡ true) (λ s lawful g told. cc) (λ l at e before. before)
       (λ l at e a legal f row before g told. row_told l at e a g f row (sym (row_shows l at e a row).0 ∙ told))
 
-  -- nobody is notified but who was told just now, and each close but that one was asked for
+  -- only the get that the last result named is notified, and each close but that one was asked for
   record IsAtOnce (l : Ledger C) : Type 0 where
     pub over : HandsOver l
-    pub few : notified l ≡ one (is_some (just_told l))
-    pub asked : unasked l ≤ one (is_some (just_told l)) - idle_count l
+    pub few : notified l ≡ one (is_some (just_notified l))
+    pub asked : unasked l ≤ one (is_some (just_notified l)) - idle_count l
     pub none_missed : missed l ≡ lost l
 
-  -- who was told tries, so whose try is due
-  told_due : (l : Ledger C) (e : Act C) → IsLegal l → IsAtOnce l → IsOf (just_told l) e → IsOf (due_try l) e × (one (is_some (just_told l)) ≤ notified_in l e)
-  told_due l e legal i h = go (just_told l) refl h
+  -- the notified get tries, so a try that is due is its own
+  told_due : (l : Ledger C) (e : Act C) → IsLegal l → IsAtOnce l → IsOf (just_notified l) e → IsOf (due_try l) e × (one (is_some (just_notified l)) ≤ notified_in l e)
+  told_due l e legal i h = go (just_notified l) refl h
     where
-      go : (o : Option ℕ) → just_told l ≡ o → IsOf o e → IsOf (due_try l) e × (one (is_some (just_told l)) ≤ notified_in l e)
+      go : (o : Option ℕ) → just_notified l ≡ o → IsOf o e → IsOf (due_try l) e × (one (is_some (just_notified l)) ≤ notified_in l e)
       go None is own = (due (due_try l) refl, omega (arith, ap (λ (o : Option ℕ). one (is_some o)) is))
         where
           due : (o : Option ℕ) → due_try l ≡ o → IsOf o e
           due None found = tt
           due (Some g) found = absurd (omega (arith, notified_counted l g (oldest_first l g legal (due_is l g found).1).0, i.few, ap (λ (o : Option ℕ). one (is_some o)) is))
       go (Some j) is own =
-          (due (due_try l) refl, omega (arith, ap (notified_in l) own ∙ ap one on, one_few (is_some (just_told l))))
+          (due (due_try l) refl, omega (arith, ap (notified_in l) own ∙ ap one on, one_few (is_some (just_notified l))))
         where
           on : gets_stand is_notified (get_of l j) ≡ true
           on = all_told l legal j is
@@ -482,7 +483,7 @@ module _ {C : Type 0} where
           due (Some g) due_is_g =
               let m = found is_notified l g (oldest_first l g legal (due_is l g due_is_g).1).0 in
               let n = found is_notified l j on in
-              own ∙ ap Try (none_else (gets_stand is_notified) (gets l) (start l).first_get g j m.0 n.0 refl m.1 m.2 n.1 n.2 (omega (arith, i.few, one_few (is_some (just_told l)))))
+              own ∙ ap Try (none_else (gets_stand is_notified) (gets l) (start l).first_get g j m.0 n.0 refl m.1 m.2 n.1 n.2 (omega (arith, i.few, one_few (is_some (just_notified l)))))
 
   -- an ask that finds nobody notified misses what was lost
   none_missed_then : (l : Ledger C) (at : ℕ) (e : Act C) (a : Answer) → Row l at e a → missed l ≡ lost l → notified l ≤ notified_in l e → missed (Later l at e a) ≡ lost (Later l at e a)
@@ -491,14 +492,14 @@ module _ {C : Type 0} where
       ap (λ (n : ℕ). cond (eqb n 0) grant.withheld (missed l)) none
   none_missed_then l at _ _ _ same few = omega (arith, same)
 
-  row_at_once : (l : Ledger C) (at : ℕ) (e : Act C) (a : Answer) → IsLegal l → fits l e ≡ true → Row l at e a → IsOf (just_told l) e → IsAtOnce l → IsAtOnce (Later l at e a)
+  row_at_once : (l : Ledger C) (at : ℕ) (e : Act C) (a : Answer) → IsLegal l → fits l e ≡ true → Row l at e a → IsOf (just_notified l) e → IsAtOnce l → IsAtOnce (Later l at e a)
   row_at_once l at e a legal f row own i =
       let s = row_sums l at e a legal f row in
       let d = told_due l e legal i own in
       let shows = ap (λ (o : Option ℕ). one (is_some o)) (row_shows l at e a row).0 in
       record {
         over = both l at e a row i.over d.0;
-        few = omega (arith, s.told_few, i.few, d.1, shows, told_now (told_by a) refl);
+        few = omega (arith, s.told_few, i.few, d.1, shows, told_now (notified_by a) refl);
         asked = omega (arith, s.asks (met l e legal d.0) (omega (arith, i.few, d.1)) (omega (arith, i.asked, d.1)), shows);
         none_missed = none_missed_then l at e a row i.none_missed (omega (arith, i.few, d.1));
       }
@@ -507,21 +508,21 @@ module _ {C : Type 0} where
       both l at e _ (begins is few) over due = (over, due)
       both l at e _ _ over due = (over, due)
 
-      told_now : (o : Option ℕ) → told_by a ≡ o → one (is_some (told_by a)) ≤ notified (Later l at e a)
+      told_now : (o : Option ℕ) → notified_by a ≡ o → one (is_some (notified_by a)) ≤ notified (Later l at e a)
       told_now None is = omega (arith, ap (λ (o : Option ℕ). one (is_some o)) is)
-      told_now (Some g) is = omega (arith, notified_counted (Later l at e a) g (row_told l at e a g f row is), one_few (is_some (told_by a)))
+      told_now (Some g) is = omega (arith, notified_counted (Later l at e a) g (row_told l at e a g f row is), one_few (is_some (notified_by a)))
 
-  fitted_told : (l : Ledger C) (at : ℕ) (e : Act C) (a : Answer) → Row l at e a → TriesWhenTold (Later l at e a) → TriesWhenTold l × IsOf (just_told l) e
+  fitted_told : (l : Ledger C) (at : ℕ) (e : Act C) (a : Answer) → Row l at e a → TriesWhenNotified (Later l at e a) → TriesWhenNotified l × IsOf (just_notified l) e
   fitted_told l at e _ (begins is few) h = h
   fitted_told l at e _ _ h = h
 
-  all_at_once : (l : Ledger C) → IsLegal l → TriesWhenTold l → IsAtOnce l
-  all_at_once = each_legal (λ l. TriesWhenTold l → IsAtOnce l)
+  all_at_once : (l : Ledger C) → IsLegal l → TriesWhenNotified l → IsAtOnce l
+  all_at_once = each_legal (λ l. TriesWhenNotified l → IsAtOnce l)
       (λ s lawful h. record { over = tt; few = refl; asked = omega arith; none_missed = refl })
       (λ l at e before h. let i = before h in record { over = i.over; few = i.few; asked = i.asked; none_missed = i.none_missed })
       (λ l at e a legal f row before h. let t = fitted_told l at e a row h in row_at_once l at e a legal f row t.1 (before t.0))
 
-  -- who waits is served in order, where the history hands over
+  -- waiters are served in order, if the history has hand-off
   pub keeps_order : (l : Ledger C) → IsLegal l → IsOrderly l
   keeps_order l legal = record {
     handed = hands_in_order l legal;
@@ -530,20 +531,20 @@ module _ {C : Type 0} where
         record {
           hands_over = i.over;
           few = i.few;
-          told = told (just_told l) refl;
+          told = told (just_notified l) refl;
           asked = λ none. omega (arith, i.asked, ap (λ (o : Option ℕ). one (is_some o)) none);
           none_missed = i.none_missed;
         };
   }
     where
-      told : (o : Option ℕ) → just_told l ≡ o → IfSome o (λ g. gets_stand is_notified (get_of l g) ≡ true)
+      told : (o : Option ℕ) → just_notified l ≡ o → IfSome o (λ g. gets_stand is_notified (get_of l g) ≡ true)
       told None is = tt
       told (Some g) is = all_told l legal g is
 
   -- ---- an event that notifies a get, and at once the try of that get
 
   goes_with : (l : Ledger C) (at g : ℕ) (o : Option ℕ) (b : Answer) → idle_count l ≤ one (is_some o) → ((k : ℕ) → o ≡ Some k → stands is_idle (record_of l k) ≡ true)
-      → gets_stand is_notified (get_of l g) ≡ true → Row l at (Try g) b → GoesWith o b × (told_by b ≡ None)
+      → gets_stand is_notified (get_of l g) ≡ true → Row l at (Try g) b → GoesWith o b × (notified_by b ≡ None)
   goes_with l at g o _ few on told (serves {k = j} {grant = grant} not_waiting off first want) =
       (subst (λ (t : Option ℕ). GoesWith t (Served j grant)) (sym (that_one l j o first few on)) refl, refl)
   goes_with l at g o _ few on told (takes_out {k = j} {grant = grant} not_waiting check first want) =
@@ -558,27 +559,27 @@ module _ {C : Type 0} where
           absurd (omega (arith, idle_none l none, some_tally (λ (r : Numbered (Standing C)). stands is_idle r.standing) (records l) (start l).first k y.0 y.1 y.2))
 
   -- an event goes on with a prompt history, and says itself who is to try
-  told_fitted : (l : Ledger C) (at : ℕ) (e : Act C) (a : Answer) → Row l at e a → TriesWhenTold l → IsOf (just_told l) e → TriesWhenTold (Later l at e a)
+  told_fitted : (l : Ledger C) (at : ℕ) (e : Act C) (a : Answer) → Row l at e a → TriesWhenNotified l → IsOf (just_notified l) e → TriesWhenNotified (Later l at e a)
   told_fitted l at e _ (begins is few) h o = (h, o)
   told_fitted l at e _ _ h o = (h, o)
 
-  prompt_row : (l : Ledger C) (at : ℕ) (e : Act C) (a : Answer) → Row l at e a → IsPrompt l → TriesWhenTold (Later l at e a) × (just_told (Later l at e a) ≡ told_by a)
+  prompt_row : (l : Ledger C) (at : ℕ) (e : Act C) (a : Answer) → Row l at e a → IsPrompt l → TriesWhenNotified (Later l at e a) × (just_notified (Later l at e a) ≡ notified_by a)
   prompt_row l at e a row p = (told_fitted l at e a row p.0 (subst (λ (o : Option ℕ). IsOf o e) (sym p.1) tt), (row_shows l at e a row).0)
 
   -- where it notified nobody, the history is prompt still
-  pub prompt_then : (l : Ledger C) (at : ℕ) (e : Act C) (a : Answer) → Allowed l at e a → told_by a ≡ None → IsPrompt l → IsPrompt (Later l at e a)
+  pub prompt_then : (l : Ledger C) (at : ℕ) (e : Act C) (a : Answer) → Allowed l at e a → notified_by a ≡ None → IsPrompt l → IsPrompt (Later l at e a)
   prompt_then l at e a allowed none p = go (fits l e) allowed
     where
       go : (b : Bool) → MatchBool b (Row l at e a) (a ≡ Unfit) → IsPrompt (Later l at e a)
       go true row = let r = prompt_row l at e a row p in (r.0, r.1 ∙ none)
       go false is = subst (λ (x : Answer). IsPrompt (Later l at e x)) (sym is) p
 
-  tells_nobody : (l : Ledger C) (at g : ℕ) (b : Answer) → Row l at (Try g) b → told_by b ≡ None
+  tells_nobody : (l : Ledger C) (at g : ℕ) (b : Answer) → Row l at (Try g) b → notified_by b ≡ None
   tells_nobody l at g _ (waits_on on nothing) = refl
   tells_nobody l at g _ _ = refl
 
   -- and where it notified a get, it is with the try of that get
-  pub prompt_tried : (l : Ledger C) (at then g : ℕ) (e : Act C) (a b : Answer) → Row l at e a → told_by a ≡ Some g → Row (Later l at e a) then (Try g) b
+  pub prompt_tried : (l : Ledger C) (at then g : ℕ) (e : Act C) (a b : Answer) → Row l at e a → notified_by a ≡ Some g → Row (Later l at e a) then (Try g) b
       → IsPrompt l → IsPrompt (Later (Later l at e a) then (Try g) b)
   prompt_tried l at then g e a b row told tries p =
       let r = prompt_row l at e a row p in
@@ -590,7 +591,7 @@ module _ {C : Type 0} where
   -- Where nobody was notified before, a get that an event notifies, and that tries at once, goes
   -- out with the connection that the event brought, or waits anew where it brought none; and nobody
   -- is notified then.
-  pub handed_over : (l : Ledger C) (at then g : ℕ) (e : Act C) (a b : Answer) → IsLegal (Later l at e a) → fits l e ≡ true → Row l at e a → told_by a ≡ Some g
+  pub handed_over : (l : Ledger C) (at then g : ℕ) (e : Act C) (a b : Answer) → IsLegal (Later l at e a) → fits l e ≡ true → Row l at e a → notified_by a ≡ Some g
       → Row (Later l at e a) then (Try g) b → notified l ≡ 0 → GoesWith (brought_by a) b × (notified (Later (Later l at e a) then (Try g) b) ≡ 0)
   handed_over l at then g e a b legal f row told tries none =
       let s = row_sums l at e a legal.0 f row in

@@ -1,9 +1,9 @@
 -- Who holds what: what a get holds is out in its hands and its last fitting try took it, and what
--- is lent is with a guard.
-use Rattle.bb8_ledger.proofs.Words.{◌≡◌, ℕ, max, Bool, true, false, cond, not, eqb, ◌&&◌, ◌||◌, Option, Some, None, is_some, List, map, option_map, refl, sym, ap, ◌∙◌, subst, Grant, Place, Idle, Held, Guarded, Standing, Holder, Guard, Get, Active, Act, Try, PutBack, Detach, Leave, Answer, Served, Taken, Kept, Closed, Left, Numbered, update, after_end, after_end_where, Ledger, Later, start, position, latest, handles, records, gets, record_of, get_of, at_place, entry, at_entry, with_approvals, get_at_place, at_wait, with_notice, oldest_waiter, holds, stands, gets_stand, is_held_by, is_left, is_trying, is_notified, Row, begins, waits_on, serves, takes_out, waits, checks, check_fails, gives_up, gives_up_kept, gives_up_closed, keeps, returns_closed, detaches, fills, asks_for, claims, opens, opens_late, fails, adds, reaps, retires, leaves, shuts, IsLegal, fits, agree, and_right, HasTaken, last_try, ServesChecked, NeverServesUnchecked, is_lent, ServesUnlent, NeverServesTwice, IfSome, get_in}
+-- is checked out is with a guard.
+use Rattle.bb8_ledger.proofs.Words.{◌≡◌, ℕ, max, Bool, true, false, cond, not, eqb, ◌&&◌, ◌||◌, Option, Some, None, is_some, List, map, option_map, refl, sym, ap, ◌∙◌, subst, Grant, Place, Idle, Held, Guarded, Standing, Holder, Guard, Get, Active, Act, Try, PutBack, Detach, Evict, Leave, Answer, Served, Taken, Kept, Closed, Left, Numbered, update, after_end, after_end_where, Ledger, Later, start, position, latest, handles, records, gets, record_of, get_of, at_place, entry, at_entry, with_approvals, get_at_place, at_wait, with_notice, oldest_waiter, holds, stands, gets_stand, is_held_by, is_left, is_trying, is_notified, Row, begins, waits_on, serves, takes_out, waits, checks, check_fails, gives_up, gives_up_kept, gives_up_closed, keeps, returns_closed, detaches, evicts, fills, asks_for, claims, opens, opens_late, fails, adds, reaps, retires, leaves, shuts, IsLegal, fits, agree, and_right, HasTaken, last_try, ServesChecked, NeverServesUnchecked, is_lent, ServesUnlent, NeverServesTwice, IfSome, get_in}
 use Rattle.bb8_types.proofs.Numbered as numbered
 use Rattle.bb8_ledger.proofs.Waiters.{getting_is}
-use Rattle.bb8_ledger.proofs.Effects.{each_legal, place_of, Turns, to_place, returns_turn, closes_turn, opens_turn, ends_turn, held_turns, idle_turns, unclaimed_turns, holder_in, holder_at, holder, turned_holder, turned_from, kept_holder, appended_same, granted_holder, reaped_holder, retired_holder, left_holder}
+use Rattle.bb8_ledger.proofs.Effects.{each_legal, place_of, Turns, to_place, returns_turn, closes_turn, evicts_turn, opens_turn, ends_turn, held_turns, idle_turns, unclaimed_turns, holder_in, holder_at, holder, turned_holder, turned_from, kept_holder, appended_same, granted_holder, reaped_holder, retired_holder, left_holder}
 use Rattle.bb8_ledger.proofs.GetEffects.{held_at, dropped_holds, taken_holds, told_holds, told_dropped, begun_holds, put_nothing, waits_nothing, trying_quiet, oldest_quiet}
 
 -- whether it is this number
@@ -29,7 +29,7 @@ abbrev has_guard : Option Holder → Bool
 has_guard (Some Guard) = true
 has_guard _ = false
 
--- ---- what an event hands over, by its answer
+-- ---- what an event hands off, by its result
 
 -- the connection that an answer names
 abbrev named : Answer → Option ℕ
@@ -44,7 +44,7 @@ abbrev taken_in : Answer → Option ℕ
 taken_in (Taken k grant) = Some k
 taken_in _ = None
 
--- one more is lent, or one less, or the same
+-- one more is checked out, or one less, or the same
 one_more : (b : Bool) (y : Option Holder) (x : Bool) → has_guard y ≡ x → has_guard (cond b (Some Guard) y) ≡ (b || x)
 one_more true y x e = refl
 one_more false y x e = e
@@ -75,6 +75,7 @@ module _ {C : Type 0} where
   held_before (Try g) a = None
   held_before (PutBack k c broken) a = None
   held_before (Detach k) a = None
+  held_before (Evict k) a = None
   held_before e a = named a
 
   -- who had the connection
@@ -95,7 +96,7 @@ module _ {C : Type 0} where
   holder_of l k = holder_at (start l).first (records l) k
 
   -- The get of an event then holds what the answer took, the connection that the answer names goes
-  -- from one holder to another, and nothing else is handed over.
+  -- from one holder to another, and nothing else is handed off.
   record Hands (l : Ledger C) (at : ℕ) (e : Act C) (a : Answer) : Type 0 where
     pub gets : (g : ℕ) → holds (get_of (Later l at e a) g) ≡ cond (is_it g (get_in e)) (taken_in a) (holds (get_of l g))
     pub had : IfSome (get_in e) (λ g. holds (get_of l g) ≡ held_before e a)
@@ -203,6 +204,9 @@ module _ {C : Type 0} where
   row_hands l at _ _ h f (detaches {k = j} {grant} {n} want is) =
       let t = closes_turn l j f in
       record { gets = told l n is; had = tt; conns = λ k. granted l false grant.count _ k ∙ turned_holder k t; from = turned_from t }
+  row_hands l at _ _ h f (evicts {k = j} {grant} {n} want is) =
+      let t = (evicts_turn l j f).1 in
+      record { gets = told l n is; had = tt; conns = λ k. granted l false grant.count _ k ∙ turned_holder k t; from = turned_from t }
   row_hands l at _ _ h f (fills {claimed} {grant} want) = record { gets = λ g. refl; had = tt; conns = granted l claimed grant.count (records l); from = tt }
   row_hands l at _ _ h f (asks_for {grant} asked) = record { gets = λ g. refl; had = tt; conns = granted l false grant.count (records l); from = tt }
   row_hands l at _ _ h f (claims {k = Some j} open_now first) = record { gets = λ g. refl; had = tt; conns = λ k. kept_holder k (unclaimed_turns l j first) refl refl; from = tt }
@@ -266,7 +270,7 @@ module _ {C : Type 0} where
   pub all_holding : (l : Ledger C) → IsLegal l → (g k : ℕ) → stands (is_held_by g) (record_of l k) ≡ true → holds (get_of l g) ≡ Some k
   all_holding l legal g k out = it_is k (holds (get_of l g)) (all_hold l legal g k ∙ sym (held_by g (record_of l k)) ∙ out)
 
-  -- ---- what is lent is with a guard
+  -- ---- what is checked out is with a guard
 
   abbrev IsLentRight : Ledger C → Type 0
   IsLentRight l = (k : ℕ) → has_guard (holder_of l k) ≡ is_lent l k

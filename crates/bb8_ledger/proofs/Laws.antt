@@ -1,5 +1,5 @@
 -- What holds of every legal ledger: the limits, the laws, and the promises to those who wait.
-use Rattle.bb8_ledger.proofs.Words.{Place, stands, one, ◌≡◌, ◌⊎◌, ℕ, suc, ◌+◌, ◌-◌, ◌<◌, ◌≤◌, max, min, true, false, Option, Some, sym, ap, ◌∙◌, inl, inr, arith, subst, is_some, Standing, Getting, is_lawful, Counts, Act, Try, GiveUp, Answer, update, after_end, Ledger, Opening, Later, start, position, latest, retired, records, gets, handles, next, next_get, conns, approved, idle_count, alive, notified, unnotified, oldest_waiter, record_of, get_of, with_notice, counts, is_conn, is_approval, is_out, gets_stand, is_unnotified, is_trying, Row, begins, waits_on, serves, takes_out, waits, checks, check_fails, gives_up, gives_up_kept, gives_up_closed, keeps, returns_closed, detaches, opens, adds, IsLegal, fits, KeepsLimits, KeepsLaws, KeepsPromises, NeverForgets, MayLower, lost, and_right, conn_from, Claimed, asks_check}
+use Rattle.bb8_ledger.proofs.Words.{Place, stands, one, ◌≡◌, ◌⊎◌, ℕ, suc, ◌+◌, ◌-◌, ◌<◌, ◌≤◌, max, min, true, false, Option, Some, sym, ap, ◌∙◌, inl, inr, arith, subst, is_some, Standing, Getting, is_lawful, Counts, Act, Try, GiveUp, Answer, update, after_end, Ledger, Opening, Later, start, position, latest, retired, records, gets, handles, next, next_get, conns, approved, idle_count, alive, notified, unnotified, oldest_waiter, record_of, get_of, with_notice, counts, is_conn, is_approval, gets_stand, is_unnotified, is_trying, Row, begins, waits_on, serves, takes_out, waits, checks, check_fails, gives_up, gives_up_kept, gives_up_closed, keeps, returns_closed, detaches, evicts, opens, adds, IsLegal, fits, KeepsLimits, KeepsLaws, KeepsPromises, NeverForgets, MayLower, lost, and_right, Claimed, asks_check}
 use Rattle.bb8_types.proofs.Numbered as numbered
 use Rattle.bb8_ledger.proofs.Facts.{conns_split, waited_before}
 use Rattle.bb8_ledger.proofs.Waiters.{changed_tally, getting_is, alive_counted, InLine, line_later, line_begun, line_begins, line_notified, line_given_up}
@@ -26,11 +26,11 @@ module _ {C : Type 0} where
   abbrev pub AllFit : Ledger C → Type 0
   AllFit l = Fits (start l).config.max_size (conns l) (approved l) (next l) (alive l) (next_get l) (counts l)
 
-  -- a connection that is out, and a claimed approval, are counted
-  pub out_counted : (l : Ledger C) (k : ℕ) (s : Standing C) → record_of l k ≡ Some s → is_out s.place ≡ true → 1 ≤ conns l
-  out_counted l k s h out_now =
+  -- a connection and a claimed approval are counted
+  pub conn_counted : (l : Ledger C) (k : ℕ) (s : Standing C) → record_of l k ≡ Some s → is_conn s.place ≡ true → 1 ≤ conns l
+  conn_counted l k s h conn_now =
       let m = numbered.standing_found (records l) (start l).first k s h in
-      omega (arith, changed_tally (stands is_conn) after_end (records l) (start l).first k m.0 (Some s) m.1 m.2, ap one (conn_from false s.place out_now))
+      omega (arith, changed_tally (stands is_conn) after_end (records l) (start l).first k m.0 (Some s) m.1 m.2, ap one conn_now)
 
   pub claimed_counted : (l : Ledger C) (k : ℕ) (s : Standing C) → record_of l k ≡ Some s → s.place ≡ Claimed → 1 ≤ approved l
   claimed_counted l k s h place =
@@ -135,11 +135,12 @@ module _ {C : Type 0} where
   row_in_line l at _ _ f (keeps {n} keep is) i = told_in_line l n is i
   row_in_line l at _ _ f (returns_closed {n} shut want is) i = told_in_line l n is i
   row_in_line l at _ _ f (detaches {n} want is) i = told_in_line l n is i
+  row_in_line l at _ _ f (evicts {n} want is) i = told_in_line l n is i
   row_in_line l at _ _ f (opens {n} in_time is) i = told_in_line l n is i
   row_in_line l at _ _ f (adds {n} room few is who) i = told_in_line l n who i
   row_in_line l at _ _ f _ i = line_later (start l).first_get (position l) (gets l) i
 
-  -- those who wait stand in line
+  -- waiters are in the queue
   pub all_in_line : (l : Ledger C) → IsLegal l → AllInLine l
   all_in_line = each_legal AllInLine
       (λ s lawful. record { turn = 0; turn_few = omega arith; keeps = λ g a e. cc; apart = λ q. omega arith })

@@ -1,5 +1,5 @@
 -- No birth and no entry lies after the latest moment, and none entered after now.
-use Rattle.bb8_ledger.proofs.Words.{◌≡◌, ℕ, zero, suc, ◌≤◌, max, Bool, true, false, cond, eqb, List, [], ◌∷◌, ◌++◌, map, Option, Some, None, option_map, option_and_then, refl, arith, Place, Idle, Held, Guarded, Standing, Numbered, at, standing_at, update, after_end, after_end_where, is_left, with_place, birth_in, Act, Try, CheckedOk, CheckedErr, GiveUp, PutBack, Detach, Fill, Ask, Claim, Opened, Failed, Add, Reap, Retire, retiring, Leave, Close, Answer, Served, Taken, Kept, Closed, Granted, Entered, Late, GivenBack, Added, Reaped, Left, Unfit, Ledger, Opening, Later, Start, start, position, latest, handles, records, record_of, records_after, moment_after, reaped, with_ended, with_approvals, approval, at_place, at_entry, entry, is_idle, sym, ◌∙◌, ◌<◌, Unclaimed, Claimed, Waiting}
+use Rattle.bb8_ledger.proofs.Words.{◌≡◌, ℕ, zero, suc, ◌≤◌, max, Bool, true, false, cond, eqb, List, [], ◌∷◌, ◌++◌, map, Option, Some, None, option_map, option_and_then, refl, arith, Place, Idle, Held, Guarded, Standing, Numbered, at, standing_at, update, after_end, after_end_where, is_left, with_place, birth_in, Act, Try, CheckedOk, CheckedErr, GiveUp, PutBack, Detach, Evict, Fill, Ask, Claim, Opened, Failed, Add, Reap, Retire, retiring, Leave, Close, Answer, Served, Taken, Kept, Closed, Granted, Entered, Late, GivenBack, Added, Reaped, Left, Unfit, Ledger, Opening, Later, Start, start, position, latest, handles, records, record_of, records_after, moment_after, reaped, with_ended, with_approvals, approval, at_place, at_entry, entry, is_idle, sym, ◌∙◌, ◌<◌, Unclaimed, Claimed, Waiting}
 use Rattle.bb8_ledger.specs.Answers as answers
 
 module _ {C : Type 0} where
@@ -89,6 +89,7 @@ module _ {C : Type 0} where
   up_to_after s h q late at rs (PutBack k c broken) (Kept j n) was u = updated _ _ s.first k (at_entry c (max late at) q) rs (kept _ q c) u
   up_to_after s h q late at rs (PutBack k c broken) (Closed j grant n) was u = granted _ _ false grant.count _ (updated _ _ s.first k after_end rs (λ r _. ended _ _ r) u)
   up_to_after s h q late at rs (Detach k) (Closed j grant n) was u = granted _ _ false grant.count _ (updated _ _ s.first k after_end rs (λ r _. ended _ _ r) u)
+  up_to_after s h q late at rs (Evict k) (Closed j grant n) was u = granted _ _ false grant.count _ (updated _ _ s.first k after_end rs (λ r _. ended _ _ r) u)
   up_to_after s h q late at rs (Fill claimed) (Granted grant) was u = granted _ _ claimed grant.count rs u
   up_to_after s h q late at rs Ask (Granted grant) was u = granted _ _ false grant.count rs u
   up_to_after s h q late at rs Claim (answers.Claimed (Some k)) was u = updated _ _ s.first k (at_place Claimed) rs (placed _ _ Claimed refl) u

@@ -1,5 +1,5 @@
 -- Who waits, and since when: an event leaves each where it was, but for a try that begins a wait.
-use Rattle.bb8_ledger.proofs.Words.{◌≡◌, ◌≢◌, ◌⊎◌, ℕ, ◌+◌, ◌<◌, max, Bool, true, false, cond, eqb, List, [], ◌∷◌, ◌++◌, length, Option, Some, None, is_some, slice_get, option_map, option_and_then, refl, sym, ap, ◌∙◌, arith, subst, inl, inr, GetPlace, Active, Holding, Waiting, Getting, Numbered, at, at_number, update, in_order, after_end, gets_stand, is_unnotified, is_notified, unnotified_at, get_at_place, at_wait, with_notice, Act, Try, Answer, new_get, Ledger, Later, start, position, latest, gets, idle_count, get_of, Row, begins, waits_on, serves, takes_out, waits, checks, check_fails, gives_up, gives_up_kept, gives_up_closed, keeps, returns_closed, detaches, opens, adds, IsLegal, fits, and_right}
+use Rattle.bb8_ledger.proofs.Words.{◌≡◌, ◌≢◌, ◌⊎◌, ℕ, ◌+◌, ◌<◌, max, Bool, true, false, cond, eqb, List, [], ◌∷◌, ◌++◌, length, Option, Some, None, is_some, slice_get, option_map, option_and_then, refl, sym, ap, ◌∙◌, arith, subst, inl, inr, GetPlace, Active, Holding, Waiting, Getting, Numbered, at, at_number, update, in_order, after_end, gets_stand, is_unnotified, is_notified, unnotified_at, get_at_place, at_wait, with_notice, Act, Try, Answer, new_get, Ledger, Later, start, position, latest, gets, idle_count, get_of, Row, begins, waits_on, serves, takes_out, waits, checks, check_fails, gives_up, gives_up_kept, gives_up_closed, keeps, returns_closed, detaches, evicts, opens, adds, IsLegal, fits, and_right}
 use Rattle.bb8_ledger.specs.Ledger.{numbered_get}
 use Rattle.bb8_ledger.specs.Limits.{WaitsSince, KeepsPlaces, AlwaysKeepsPlaces}
 use Rattle.bb8_types.proofs.Numbered as numbered
@@ -57,7 +57,7 @@ changed_waited first k g f gs y off hy on = elim (numbered.same_or_not g k) [
         let clash : false ≡ true = sym (off x) ∙ ap (λ (z : Numbered Getting). gets_stand is_waiting z.standing) same ∙ on in
         cc
 
--- one that is told where it stands
+-- one whose state is known
 told_waited : (first m g : ℕ) (n : Option ℕ) (gs : List (Numbered Getting)) (y : Numbered Getting) → n ≡ slice_get (in_order unnotified_at first gs m) 0
     → at first (with_notice first n gs) g ≡ Some y → gets_stand is_waiting y.standing ≡ true → Waited first gs g y
 told_waited first m g None gs y is hy on = (y, hy, refl, on)
@@ -145,6 +145,7 @@ module _ {C : Type 0} where
   row_waited l at _ _ g y f (keeps {n = n} keep is) hy on = inl (told_waited (start l).first_get (position l) g n (gets l) y is hy on)
   row_waited l at _ _ g y f (returns_closed {n = n} shut want is) hy on = inl (told_waited (start l).first_get (position l) g n (gets l) y is hy on)
   row_waited l at _ _ g y f (detaches {n = n} want is) hy on = inl (told_waited (start l).first_get (position l) g n (gets l) y is hy on)
+  row_waited l at _ _ g y f (evicts {n = n} want is) hy on = inl (told_waited (start l).first_get (position l) g n (gets l) y is hy on)
   row_waited l at _ _ g y f (opens {n = n} in_time is) hy on = inl (told_waited (start l).first_get (position l) g n (gets l) y is hy on)
   row_waited l at _ _ g y f (adds {n = n} room few is who) hy on = inl (told_waited (start l).first_get (position l) g n (gets l) y who hy on)
   row_waited l at _ _ g y f _ hy on = inl (y, hy, refl, on)

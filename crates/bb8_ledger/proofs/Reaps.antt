@@ -39,7 +39,7 @@ module _ {C : Type 0} where
   approved_line s m now zero rs = refl
   approved_line s m now (suc n) rs = numbered.in_order-append (over_idle_at s.config now) (with_approvals false n rs) s.first (approval false) (λ p. refl) m ∙ approved_line s m now n rs
 
-  -- whoever is idle too long is idle
+  -- a connection that is idle too long is idle
   over_idle_before : (config : Settings) (now m : ℕ) (rs : List (Numbered (Standing C))) → Before idle_at m rs → Before (over_idle_at config now) m rs
   over_idle_before config now m [] b = tt
   over_idle_before config now m (r ∷ rs) b = (λ p h. b.0 p (entered p h), over_idle_before config now m rs b.1)

@@ -1,5 +1,5 @@
 -- No idle connection is retired.
-use Rattle.bb8_ledger.proofs.Words.{◌≡◌, ℕ, zero, suc, ◌+◌, ◌≤◌, max, Bool, true, false, cond, eqb, ltb, ◌||◌, List, [], ◌∷◌, ◌++◌, map, length, Option, Some, None, option_map, refl, sym, ◌∙◌, ap, inl, inr, arith, nat_tests, Place, Claimed, Held, Guarded, Standing, Numbered, standing_at, tally, one, update, after_end, after_end_where, is_left, with_place, Act, Answer, Start, Ledger, Later, start, position, latest, handles, retired, records, idle_of, idle_count, next, approval, with_approvals, with_ended, at_place, at_entry, entry, reaped_at, retired_at, retiring, lives_out, is_idle, stands, is_doubtful, Row, serves, takes_out, waits_on, waits, checks, check_fails, gives_up_kept, gives_up_closed, keeps, returns_closed, detaches, fills, asks_for, claims, opens, opens_late, fails, adds, reaps, retires, retire_ended, leaves, shuts}
+use Rattle.bb8_ledger.proofs.Words.{◌≡◌, ℕ, zero, suc, ◌+◌, ◌≤◌, max, Bool, true, false, cond, eqb, ltb, ◌||◌, List, [], ◌∷◌, ◌++◌, map, length, Option, Some, None, option_map, refl, sym, ◌∙◌, ap, inl, inr, arith, nat_tests, Place, Claimed, Held, Guarded, Standing, Numbered, standing_at, tally, one, update, after_end, after_end_where, is_left, with_place, Act, Answer, Start, Ledger, Later, start, position, latest, handles, retired, records, idle_of, idle_count, next, approval, with_approvals, with_ended, at_place, at_entry, entry, reaped_at, retired_at, retiring, lives_out, is_idle, stands, is_doubtful, Row, serves, takes_out, waits_on, waits, checks, check_fails, gives_up_kept, gives_up_closed, keeps, returns_closed, detaches, evicts, fills, asks_for, claims, opens, opens_late, fails, adds, reaps, retires, retire_ended, leaves, shuts}
 use Rattle.bb8_types.proofs.Numbered as numbered
 use Rattle.bb8_ledger.proofs.Reaps.{reaped_none}
 
@@ -121,6 +121,7 @@ module _ {C : Type 0} where
       updated _ _ k (at_entry c (max (latest l) at) (position l)) (records l) (λ r idle. not_below k (retired l) fresh) u
   row_from l at _ _ (returns_closed {k} {grant} shut want is) few none u = granted _ _ false grant.count _ (ended _ _ k (records l) u)
   row_from l at _ _ (detaches {k} {grant} want is) few none u = granted _ _ false grant.count _ (ended _ _ k (records l) u)
+  row_from l at _ _ (evicts {k} {grant} want is) few none u = granted _ _ false grant.count _ (ended _ _ k (records l) u)
   row_from l at _ _ (fills {claimed} {grant} want) few none u = granted _ _ claimed grant.count (records l) u
   row_from l at _ _ (asks_for {grant} asked) few none u = granted _ _ false grant.count (records l) u
   row_from l at _ _ (claims {k = Some k} open_now first) few none u = placed _ _ k Claimed (records l) refl u

@@ -1,8 +1,8 @@
 -- What each row of the step table does to the sizes, the numbers and the statistics.
-use Rattle.bb8_ledger.proofs.Words.{⊤, ◌≡◌, ◌⊎◌, ℕ, ◌+◌, ◌-◌, ◌<◌, ◌≤◌, min, Bool, zero, suc, true, false, not, ltb, eqb, ◌&&◌, ◌||◌, List, Option, Some, None, is_some, refl, ap, inl, inr, arith, length-append, Grant, Guarded, Held, Standing, Settings, Numbered, one, due, Act, Try, CheckedOk, GiveUp, Reason, TimedOut, Cancelled, Answer, Getting, GetPlace, Waiting, gets_stand, is_unnotified, is_notified, Closed, GaveUp, Kept, cond, oldest_waiter, Entered, Reaped, Unfit, Ledger, Later, start, handles, idle, idle_count, first_idle, unnotified, notified, conns, approved, conns_of, approved_of, alive, expires, waited_since, started, direct, waited, timed_out, cancelled, created, broken, expired, invalid, idled_out, retired, closed_retired, detached, get_of, Row, begins, waits_on, serves, takes_out, waits, checks, check_fails, gives_up, gives_up_kept, gives_up_closed, keeps, returns_closed, detaches, fills, asks_for, unprovided, claims, opens, opens_late, fails, adds, reaps, retires, joins, leaves, shuts, IsWant, IsLegal, fits, outlived_at, idled_at, GivesNext, NeverGivesAgain, numbers_given, gets_given, lost, and_right, nat_tests, is_doubtful}
+use Rattle.bb8_ledger.proofs.Words.{⊤, ◌≡◌, ◌⊎◌, ℕ, ◌+◌, ◌-◌, ◌<◌, ◌≤◌, min, Bool, zero, suc, true, false, not, ltb, eqb, ◌&&◌, ◌||◌, List, Option, Some, None, is_some, refl, ap, inl, inr, arith, length-append, Grant, Guarded, Held, Standing, Settings, Numbered, one, due, Act, Try, CheckedOk, GiveUp, Reason, TimedOut, Cancelled, Answer, Getting, GetPlace, Waiting, gets_stand, is_unnotified, is_notified, Closed, GaveUp, Kept, cond, oldest_waiter, Entered, Reaped, Unfit, Ledger, Later, start, handles, idle, idle_count, first_idle, unnotified, notified, conns, approved, conns_of, approved_of, alive, expires, waited_since, started, direct, waited, timed_out, cancelled, created, broken, expired, invalid, idled_out, retired, closed_retired, detached, get_of, Row, begins, waits_on, serves, takes_out, waits, checks, check_fails, gives_up, gives_up_kept, gives_up_closed, keeps, returns_closed, detaches, evicts, fills, asks_for, unprovided, claims, opens, opens_late, fails, adds, reaps, retires, joins, leaves, shuts, IsWant, IsLegal, fits, outlived_at, idled_at, GivesNext, NeverGivesAgain, numbers_given, gets_given, lost, and_right, nat_tests, is_doubtful}
 use Rattle.bb8_types.proofs.Numbered as numbered
-use Rattle.bb8_ledger.specs.Handed.{told_by, brought_by, waiters, unasked, missed, closes_told, places_lost}
-use Rattle.bb8_ledger.proofs.Effects.{each_legal, returns_turn, closes_turn, opens_turn, ends_turn, idle_turns, unclaimed_turns, stays_sized, turned_sized, adds_sized, granted_sized, reaped_sized, retired_sized, granted_reaped, left_sized, shut_sized}
+use Rattle.bb8_ledger.specs.Handed.{notified_by, brought_by, waiters, unasked, missed, closes_told, places_lost}
+use Rattle.bb8_ledger.proofs.Effects.{each_legal, returns_turn, closes_turn, evicts_turn, opens_turn, ends_turn, idle_turns, unclaimed_turns, stays_sized, turned_sized, adds_sized, granted_sized, reaped_sized, retired_sized, granted_reaped, left_sized, shut_sized}
 use Rattle.bb8_ledger.proofs.GetEffects.{trier_leaves, trier_holds, holder_ends, holder_turns, left_sums, left_told, begun_sums, waits_on_sums, waits_sums, told_sums, given_up_sums}
 use Rattle.bb8_ledger.proofs.Facts.{idle_tally, none_first}
 use Rattle.bb8_ledger.proofs.Wants.{due_or_none}
@@ -88,7 +88,7 @@ module _ {C : Type 0} where
   wanted_few : (l : Ledger C) (rs : List (Numbered (Standing C))) (g : Grant) → IsWant l rs g → g.count ≤ (start l).config.max_size - (conns_of rs + approved_of rs)
   wanted_few l rs g want = grind (arith, due_few)
 
-  -- whether a get that stands here is notified
+  -- whether a get in this state is notified
   told_place : (l : Ledger C) (g : ℕ) (st : Getting) → get_of l g ≡ Some st → one (gets_stand is_notified (get_of l g)) ≡ one (is_notified st.place)
   told_place l g st was = ap (λ (o : Option Getting). one (gets_stand is_notified o)) was
 
@@ -133,7 +133,7 @@ module _ {C : Type 0} where
   -- ---- the sums of a row
 
   -- An answer gives the next numbers, the size is kept, each connection that ends is counted as one
-  -- that stood there, and each get that began is answered once or alive.
+  -- that was there, and each get that began has one result or is alive.
   pub record Sums (l : Ledger C) (at : ℕ) (e : Act C) (a : Answer) : Type 0 where
     pub gives : GivesNext l at e a
     pub size : conns l + approved l ≤ (start l).config.max_size → conns (Later l at e a) + approved (Later l at e a) ≤ (start l).config.max_size
@@ -148,11 +148,11 @@ module _ {C : Type 0} where
         (Later l at e a) ≡ direct l + waited l + timed_out l + cancelled l + alive l + gets_given a
     pub serves : conns l + approved l ≤ (start l).config.max_size → Serves l → Serves (Later l at e a)
     pub remembers : Lowers e (notified l - notified (Later l at e a)) (unnotified (Later l at e a))
-    pub told_few : notified (Later l at e a) + notified_in l e ≤ notified l + one (is_some (told_by a))
+    pub told_few : notified (Later l at e a) + notified_in l e ≤ notified l + one (is_some (notified_by a))
     pub settles : IsMet l e → min (waiters l) (idle_count l - 1) ≡ 0 → min (waiters (Later l at e a)) (idle_count (Later l at e a) - one (is_some (brought_by a))) ≡ 0
     pub loses : IsMet l e → LosesFew l → LosesFew (Later l at e a)
     pub provides : IsMet l e → Provides l → Provides (Later l at e a)
-    pub asks : IsMet l e → notified l ≤ notified_in l e → unasked l ≤ notified_in l e - idle_count l → unasked (Later l at e a) ≤ one (is_some (told_by a)) - idle_count (Later l at e a)
+    pub asks : IsMet l e → notified l ≤ notified_in l e → unasked l ≤ notified_in l e - idle_count l → unasked (Later l at e a) ≤ one (is_some (notified_by a)) - idle_count (Later l at e a)
 
   pub row_sums : (l : Ledger C) (at : ℕ) (e : Act C) (a : Answer) → IsLegal l → fits l e ≡ true → Row l at e a → Sums l at e a
   row_sums l at _ _ legal f (begins {g} is few) = omega (arith, begun_sums l)
@@ -228,6 +228,9 @@ module _ {C : Type 0} where
       omega (arith, z, granted_sized false grant.count z, wanted_few l _ grant want, told_sums l n is, some_told l n is, one_if_some (waiters l), one_of b (ltb k (retired l)) (expires l at k))
   row_sums l at _ _ legal f (detaches {k} {grant} {n} want is) =
       let z = turned_sized (closes_turn l k f) in
+      omega (arith, z, granted_sized false grant.count z, wanted_few l _ grant want, told_sums l n is, some_told l n is, one_if_some (waiters l))
+  row_sums l at _ _ legal f (evicts {k} {grant} {n} want is) =
+      let z = turned_sized (evicts_turn l k f).1 in
       omega (arith, z, granted_sized false grant.count z, wanted_few l _ grant want, told_sums l n is, some_told l n is, one_if_some (waiters l))
   row_sums l at _ _ legal f (fills {claimed} {grant} want) = omega (arith, granted_sized claimed grant.count (stays_sized l), wanted_few l _ grant want)
   row_sums l at _ _ legal f (asks_for {grant} granted) = omega (

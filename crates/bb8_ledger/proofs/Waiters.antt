@@ -35,7 +35,7 @@ module _ {R : Type 0} where
   numbers_some : (p : R → Bool) (rs : List R) (n q : ℕ) (r : R) → at n rs q ≡ Some r → p r ≡ true → numbers p n rs ≡ [] → ⊥
   numbers_some p rs n q r h on none = omega (arith, some_tally p rs n q r h on, numbered.length-numbers p rs n, ap (λ (xs : List ℕ). length xs) none)
 
-  -- nor is the list empty where an element stands below the last position
+  -- nor is the list empty if an element is below the last position
   pub in_order_some : (stands : ℕ → R → Bool) (rs : List R) (n m q p : ℕ) (r : R) → at n rs q ≡ Some r → stands p r ≡ true → p < m → in_order stands n rs m ≡ [] → ⊥
   in_order_some stands rs n zero q p r h on below none = absurd (omega arith)
   in_order_some stands rs n (suc m) q p r h on below none = elim (numbered.same_or_not p m) [
@@ -43,7 +43,7 @@ module _ {R : Type 0} where
     | inr t ↦ in_order_some stands rs n m q p r h on (omega (arith, t.1)) (no_front (in_order stands n rs m) (numbers (stands m) n rs) none)
   ]
 
-  -- the first in the list stands at a position below which nobody stands
+  -- the first in the list is at a position below which there is nobody
   abbrev pub Least : (ℕ → R → Bool) → List R → (n m k : ℕ) → Type 0
   Least stands rs n m k = (r : R) × (at n rs k ≡ Some r) × (p : ℕ) × (p < m) × (stands p r ≡ true) × (in_order stands n rs p ≡ [])
 
@@ -78,7 +78,7 @@ module _ {R : Type 0} where
     | inr t ↦ rw t.0 (at_update rs (suc n) k q f)
   ]
 
-  -- who stands in a list of which an element has changed
+  -- who is in a list after an element has changed
   updated_at : (rs : List R) (n k q : ℕ) (f : R → R) (old r : R) → at n rs k ≡ Some old → at n (update n k f rs) q ≡ Some r → ((q ≡ k) × (r ≡ f old)) ⊎ ((q ≢ k) × (at n rs q ≡ Some r))
   updated_at rs n k q f old r h e =
       let is : cond (eqb q k) (option_map f (at n rs q)) (at n rs q) ≡ Some r = sym (at_update rs n k q f) ∙ e in
@@ -93,7 +93,7 @@ module _ {R : Type 0} where
   pub tally_update : (p : R → Bool) (rs : List R) (n k : ℕ) (f : R → R) (r : R) → at n rs k ≡ Some r → tally p (update n k f rs) + one (p r) ≡ tally p rs + one (p (f r))
   tally_update p rs n k f r h = ap (λ (xs : List R). tally p xs + one (p r)) (numbered.update_is rs n k f r h) ∙ numbered.tally-change p rs n k (f r) r h
 
-  -- as many, where no change tells
+  -- as many, if no change matters
   pub tally_same : (p : R → Bool) (f : R → R) → ((r : R) → p (f r) ≡ p r) → (rs : List R) (n k : ℕ) → tally p (update n k f rs) ≡ tally p rs
   tally_same p f same [] n k = refl
   tally_same p f same (r ∷ rs) n k = omega (arith, tally_same p f same rs (suc n) k, ap one (pick (eqb k n)))
@@ -107,9 +107,9 @@ pub changed_tally : {S : Type 0} (test : Option S → Bool) (f : Numbered S → 
     → at n rs k ≡ Some x → x.standing ≡ o → tally (λ r. test r.standing) (update n k f rs) + one (test o) ≡ tally (λ r. test r.standing) rs + one (test (f x).standing)
 changed_tally {S} test f rs n k x o h is = rw (← is) (tally_update (λ (r : Numbered S). test r.standing) rs n k f x h)
 
--- ---- where a get stands
+-- ---- the state of a get
 
--- the get that stands in a place that passes
+-- the get in a state that passes
 pub getting_is : (test : GetPlace → Bool) (o : Option Getting) → gets_stand test o ≡ true → (s : Getting) × (o ≡ Some s) × (test s.place ≡ true)
 getting_is test None h = cc
 getting_is test (Some s) h = (s, refl, h)
@@ -300,7 +300,7 @@ line_begins first now p g gs x s h is off before i =
         let elsewhere : one (unnotified_at r (at_wait now p x)) ≡ 0 = ap one (both_false (gets_stand is_unnotified (at_wait now p x).standing) _ (ap (λ (q : ℕ). eqb q r) last ∙ t.0)) in
         omega (arith, i.apart r, tally_update (unnotified_at r) gs first g (at_wait now p) x h)
 
--- the first of the unnotified is notified where it stands
+-- the first of the unnotified is notified where it is
 pub line_notified : (first p : ℕ) (n : Option ℕ) (gs : List (Numbered Getting)) → n ≡ slice_get (in_order unnotified_at first gs p) 0 → InLine first p gs → InLine first p (with_notice first n gs)
 line_notified first p None gs is i = i
 line_notified first p (Some g) gs is i =
@@ -351,7 +351,7 @@ line_given_up first p g n gs x s h is who i = pick (is_notified s.place) (handed
     pick true to left = line_notified first p n (update first g after_end gs) to left
     pick false none left = rw none left
 
--- how many wait once a get has given up: one unnotified less at most, or one notification handed on
+-- how many wait once a get has given up: one unnotified less at most, or one notification passed on
 abbrev pub IsGivenUp : (u n u' n' : ℕ) → Type 0
 IsGivenUp u n u' n' = ((u' ≤ u) × (n' ≡ n)) ⊎ ((u' ≡ u - 1) × (n' + 1 ≡ n + min 1 u))
 

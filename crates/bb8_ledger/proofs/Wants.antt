@@ -1,5 +1,5 @@
 -- What is wanted is made good.
-use Rattle.bb8_ledger.proofs.Words.{◌≡◌, ◌⊎◌, ℕ, zero, suc, ◌+◌, ◌-◌, ◌<◌, ◌≤◌, min, Bool, false, cond, List, refl, ap, inl, inr, arith, unwrap_or, Grant, Held, Guarded, Standing, Settings, Act, Ask, Answer, Granted, IsGranted, Numbered, after_end, with_ended, Ledger, Later, start, records, handles, next, peak, conns, approved, conns_of, approved_of, idle_of, at_place, with_approvals, reaped_at, Row, serves, takes_out, check_fails, gives_up_closed, returns_closed, detaches, fills, asks_for, unprovided, reaps, retires, retired_at, IsWant, IsLegal, with_record, due, MakesGood, AlwaysMakesGood}
+use Rattle.bb8_ledger.proofs.Words.{◌≡◌, ◌⊎◌, ℕ, zero, suc, ◌+◌, ◌-◌, ◌<◌, ◌≤◌, min, Bool, false, cond, List, refl, ap, inl, inr, arith, unwrap_or, Grant, Held, Guarded, Standing, Settings, Act, Ask, Answer, Granted, IsGranted, Numbered, after_end, with_ended, Ledger, Later, start, records, handles, next, peak, conns, approved, conns_of, approved_of, idle_of, at_place, with_approvals, reaped_at, Row, serves, takes_out, check_fails, gives_up_closed, returns_closed, detaches, evicts, fills, asks_for, unprovided, reaps, retires, retired_at, IsWant, IsLegal, with_record, due, MakesGood, AlwaysMakesGood}
 use Rattle.bb8_ledger.specs.Limits.{IsAskedFor}
 use Rattle.bb8_types.proofs.Numbered as numbered
 use Rattle.bb8_ledger.proofs.Effects.{each_legal, approves}
@@ -45,6 +45,7 @@ module _ {C : Type 0} where
   row_makes_good l at _ _ (gives_up_closed {k} {grant} holds_it shut want is) = want_made_good l (with_record l k after_end) false grant want
   row_makes_good l at _ _ (returns_closed {k} {grant} shut want is) = want_made_good l (with_record l k after_end) false grant want
   row_makes_good l at _ _ (detaches {k} {grant} want is) = want_made_good l (with_record l k after_end) false grant want
+  row_makes_good l at _ _ (evicts {k} {grant} want is) = want_made_good l (with_record l k after_end) false grant want
   row_makes_good l at _ _ (fills {claimed} {grant} want) = want_made_good l (records l) claimed grant want
   row_makes_good l at _ _ (asks_for {grant} granted) = asked_good l at grant granted
   row_makes_good l at _ _ (reaps {grant} open_now closed_is by_idle_is by_life_is want) =

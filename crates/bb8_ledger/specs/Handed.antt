@@ -11,13 +11,13 @@ use Rattle.bb8_ledger.specs.Ledger.{Ledger, Opening, Later, start, position, han
 use Rattle.bb8_ledger.specs.Limits.{lost, lost_by, WaitsSince}
 
 -- the get that a result notifies
-abbrev pub told_by : Answer → Option ℕ
-told_by (Kept k n) = n
-told_by (Closed k grant n) = n
-told_by (GaveUp n) = n
-told_by (Entered k n) = n
-told_by (Added k n) = n
-told_by _ = None
+abbrev pub notified_by : Answer → Option ℕ
+notified_by (Kept k n) = n
+notified_by (Closed k grant n) = n
+notified_by (GaveUp n) = n
+notified_by (Entered k n) = n
+notified_by (Added k n) = n
+notified_by _ = None
 
 -- the connection that became idle with a result
 abbrev pub brought_by : Answer → Option ℕ
@@ -45,10 +45,10 @@ notified_at p g = gets_stand is_notified g.standing && eqb g.position p
 
 module _ {C : Type 0} where
   -- the get that was notified just now: by the latest event that fitted
-  abbrev pub just_told : Ledger C → Option ℕ
-  just_told (Opening s) = None
-  just_told (Later l at e Unfit) = just_told l
-  just_told (Later l at e a) = told_by a
+  abbrev pub just_notified : Ledger C → Option ℕ
+  just_notified (Opening s) = None
+  just_notified (Later l at e Unfit) = just_notified l
+  just_notified (Later l at e a) = notified_by a
 
   -- the connection that became idle just now
   abbrev pub just_brought : Ledger C → Option ℕ
@@ -157,27 +157,27 @@ module _ {C : Type 0} where
     pub few_told : notified l + places_lost l ≤ closes_told l + one (is_some (due_try l))
 
   -- A history in which each notified get tries at once, directly after the event that notified it.
-  abbrev pub TriesWhenTold : Ledger C → Type 0
-  TriesWhenTold (Opening s) = ⊤
-  TriesWhenTold (Later l at e Unfit) = TriesWhenTold l
-  TriesWhenTold (Later l at e a) = TriesWhenTold l × IfSome (just_told l) (λ g. e ≡ Try g)
+  abbrev pub TriesWhenNotified : Ledger C → Type 0
+  TriesWhenNotified (Opening s) = ⊤
+  TriesWhenNotified (Later l at e Unfit) = TriesWhenNotified l
+  TriesWhenNotified (Later l at e a) = TriesWhenNotified l × IfSome (just_notified l) (λ g. e ≡ Try g)
 
   -- A history in which each notified get has tried at once, the latest one too.
   abbrev pub IsPrompt : Ledger C → Type 0
-  IsPrompt l = TriesWhenTold l × (just_told l ≡ None)
+  IsPrompt l = TriesWhenNotified l × (just_notified l ≡ None)
 
   -- It has hand-off; no get is notified except the one notified just now; and if there is none, a
   -- connection was requested for each close. Each ask finds no get notified, so what was missed is
   -- what was lost since the latest ask.
   pub record TriesAtOnce (l : Ledger C) : Type 0 where
     pub hands_over : HandsOver l
-    pub few : notified l ≡ one (is_some (just_told l))
-    pub told : IfSome (just_told l) (λ g. gets_stand is_notified (get_of l g) ≡ true)
-    pub asked : just_told l ≡ None → unasked l ≡ 0
+    pub few : notified l ≡ one (is_some (just_notified l))
+    pub told : IfSome (just_notified l) (λ g. gets_stand is_notified (get_of l g) ≡ true)
+    pub asked : just_notified l ≡ None → unasked l ≡ 0
     pub none_missed : missed l ≡ lost l
 
   -- Waiters are served in order if the history has hand-off, and so if each notified get tries at
   -- once.
   pub record IsOrderly (l : Ledger C) : Type 0 where
     pub handed : HandsOver l → KeepsOrder l
-    pub at_once : TriesWhenTold l → TriesAtOnce l
+    pub at_once : TriesWhenNotified l → TriesAtOnce l

@@ -12,7 +12,7 @@ use Rattle.bb8_types.specs.declared.standing.GetPlace.TheVariants.{Active, Waiti
 use Rattle.bb8_types.specs.declared.standing.Getting.{Getting}
 use Rattle.bb8_types.specs.Settings.{Settings}
 use Rattle.bb8_types.specs.Figures.{Counts, Figures}
-use Rattle.bb8_ledger.specs.Acts.{Act, Begin, Try, CheckedOk, CheckedErr, GiveUp, PutBack, Detach, Fill, Ask, Claim, Opened, Failed, Add, Reap, Retire, Leave, Close, TimedOut, Cancelled, get_in, says_broken}
+use Rattle.bb8_ledger.specs.Acts.{Act, Begin, Try, CheckedOk, CheckedErr, GiveUp, PutBack, Detach, Evict, Fill, Ask, Claim, Opened, Failed, Add, Reap, Retire, Leave, Close, TimedOut, Cancelled, get_in, says_broken}
 use Rattle.bb8_ledger.specs.Answers.{Answer, Begun, Served, Taken, Kept, Closed, GaveUp, Granted, Entered, Late, GivenBack, Added, Reaped, Joined, Left, Unfit}
 use Rattle.bb8_ledger.specs.Answers as answers
 use Rattle.bb8_types.specs.Numbered.{Numbered, at, update, numbers, in_order, tally, one, standing_at, after_end, after_end_where}
@@ -116,6 +116,7 @@ module _ {C : Type 0} where
   records_after s handles position now rs (PutBack k c broken) (Kept m n) = update s.first k (at_entry c now position) rs
   records_after s handles position now rs (PutBack k c broken) (Closed m grant n) = with_approvals false grant.count (update s.first k after_end rs)
   records_after s handles position now rs (Detach k) (Closed m grant n) = with_approvals false grant.count (update s.first k after_end rs)
+  records_after s handles position now rs (Evict k) (Closed m grant n) = with_approvals false grant.count (update s.first k after_end rs)
   records_after s handles position now rs (Fill claimed) (Granted grant) = with_approvals claimed grant.count rs
   records_after s handles position now rs Ask (Granted grant) = with_approvals false grant.count rs
   records_after s handles position now rs Claim (answers.Claimed (Some k)) = update s.first k (at_place Claimed) rs
@@ -157,6 +158,7 @@ gets_after s position now gs (GiveUp g why held broken) (Closed k grant n) = wit
 gets_after s position now gs (PutBack k c broken) (Kept m n) = with_notice s.first_get n gs
 gets_after s position now gs (PutBack k c broken) (Closed m grant n) = with_notice s.first_get n gs
 gets_after s position now gs (Detach k) (Closed m grant n) = with_notice s.first_get n gs
+gets_after s position now gs (Evict k) (Closed m grant n) = with_notice s.first_get n gs
 gets_after s position now gs (Opened k c) (Entered m n) = with_notice s.first_get n gs
 gets_after s position now gs (Add c broken) (Added k n) = with_notice s.first_get n gs
 gets_after s position now gs _ _ = gs
@@ -392,6 +394,7 @@ module _ {C : Type 0} where
   expired (Opening s) = 0
   expired (Later l at e (Reaped closed by_idle by_life grant)) = expired l + by_life
   expired (Later l at (Detach m) (Closed k grant n)) = expired l
+  expired (Later l at (Evict m) (Closed k grant n)) = expired l
   expired (Later l at e (Closed k grant n)) = expired l + one (not (says_broken (start l).config e) && (not (ltb k (retired l)) && expires l at k))
   expired (Later l at e a) = expired l
 
@@ -401,14 +404,16 @@ module _ {C : Type 0} where
   closed_retired (Later l at e Unfit) = closed_retired l
   closed_retired (Later l at Retire (Reaped closed by_idle by_life grant)) = closed_retired l + closed
   closed_retired (Later l at (Detach m) (Closed k grant n)) = closed_retired l
+  closed_retired (Later l at (Evict m) (Closed k grant n)) = closed_retired l
   closed_retired (Later l at e (Closed k grant n)) = closed_retired l + one (not (says_broken (start l).config e) && ltb k (retired l))
   closed_retired (Later l at e a) = closed_retired l
 
-  -- connections that were detached
+  -- connections that were detached, by their guard or while idle
   abbrev pub detached : Ledger C → ℕ
   detached (Opening s) = 0
   detached (Later l at e Unfit) = detached l
   detached (Later l at (Detach k) a) = detached l + 1
+  detached (Later l at (Evict k) a) = detached l + 1
   detached (Later l at e a) = detached l
 
   -- connections closed because they were idle too long

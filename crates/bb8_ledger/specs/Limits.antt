@@ -42,7 +42,7 @@ abbrev pub GivesGet : ℕ → Answer → Type 0
 GivesGet next_get (Begun g) = g ≡ next_get
 GivesGet next_get _ = ⊤
 
--- the count of approvals that a result loses to waiters: those given back, those whose connection
+-- the count of approvals that a result loses to waiters: those returned, those whose connection
 -- came too late, and those withheld from a waiter
 abbrev pub lost_by : Answer → ℕ
 lost_by GivenBack = 1

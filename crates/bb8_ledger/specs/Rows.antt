@@ -15,27 +15,27 @@ use Rattle.bb8_ledger.specs.Waits.{wait, IsMostWaits}
 -- ---- the meaning of a row
 
 -- A line of a row: an event at a moment, and its result.
-pub record Told : Type 0 where
+pub record RowLine : Type 0 where
   pub at : ℕ
   pub act : Act ℕ
   pub answer : Answer
 
 -- the ledger after these lines
-abbrev pub after : Ledger ℕ → List Told → Ledger ℕ
+abbrev pub after : Ledger ℕ → List RowLine → Ledger ℕ
 after l [] = l
-after l (t ∷ told) = after (Later l t.at t.act t.answer) told
+after l (t ∷ lines) = after (Later l t.at t.act t.answer) lines
 
 -- whether the step table allows each result
-abbrev pub AreAllowed : Ledger ℕ → List Told → Type 0
+abbrev pub AreAllowed : Ledger ℕ → List RowLine → Type 0
 AreAllowed l [] = Unit {0}
-AreAllowed l (t ∷ told) = Allowed l t.at t.act t.answer × AreAllowed (Later l t.at t.act t.answer) told
+AreAllowed l (t ∷ lines) = Allowed l t.at t.act t.answer × AreAllowed (Later l t.at t.act t.answer) lines
 
 -- A worked row: from the empty ledger of a lawful configuration, with these first numbers, the
 -- results are allowed, and the final state has these statistics.
-pub record IsRow (config : Settings) (first first_get : ℕ) (told : List Told) (shown : Figures) : Type 0 where
+pub record IsRow (config : Settings) (first first_get : ℕ) (lines : List RowLine) (shown : Figures) : Type 0 where
   pub lawful : is_lawful config ≡ true
-  pub allowed : AreAllowed (opening_with config first first_get) told
-  pub last : figures (after (opening_with config first first_get) told) ≡ shown
+  pub allowed : AreAllowed (opening_with config first first_get) lines
+  pub last : figures (after (opening_with config first first_get) lines) ≡ shown
 
 -- the first n waits of a back-off
 abbrev pub first_waits : ℕ → ℕ → List ℕ
@@ -44,8 +44,8 @@ first_waits timeout (suc n) = first_waits timeout n ++ wait timeout (suc n) ∷ 
 
 -- The waits of a connection attempt whose every connect fails at once, and which therefore tries
 -- once more: only the last wait ends after the timeout, and `most` is the count of those before it.
-pub record IsBackOff (timeout : ℕ) (told : List ℕ) (most : ℕ) : Type 0 where
-  pub first : first_waits timeout (suc most) ≡ told
+pub record IsBackOff (timeout : ℕ) (lines : List ℕ) (most : ℕ) : Type 0 where
+  pub first : first_waits timeout (suc most) ≡ lines
   pub within : IsMostWaits timeout most
 
 -- ---- notations for lines
@@ -53,7 +53,7 @@ pub record IsBackOff (timeout : ℕ) (told : List ℕ) (most : ℕ) : Type 0 whe
 -- at a moment, an event and its result
 infix 70 ◌▸◌⇒◌
 -- a line: at a moment, an event and its result
-abbrev pub ◌▸◌⇒◌ : ℕ → Act ℕ → Answer → Told
+abbrev pub ◌▸◌⇒◌ : ℕ → Act ℕ → Answer → RowLine
 ◌▸◌⇒◌ at act answer = record { at = at; act = act; answer = answer }
 
 -- a grant of this many approvals, from the next number on; nothing is withheld
@@ -103,14 +103,14 @@ unchecked max_size = record default_settings { max_size = max_size; test_on_chec
 
 -- a row of one connection with hand-off: `lost` times a notified get waited anew, and a connection
 -- was requested for each close
-abbrev pub HandsOverLosing : ℕ → List Told → Type 0
-HandsOverLosing lost told = let l : Ledger ℕ = after (opening_with (unchecked 1) 0 0) told in HandsOver l × (places_lost l ≡ lost) × (unasked l ≡ 0)
+abbrev pub HandsOverLosing : ℕ → List RowLine → Type 0
+HandsOverLosing lost lines = let l : Ledger ℕ = after (opening_with (unchecked 1) 0 0) lines in HandsOver l × (places_lost l ≡ lost) × (unasked l ≡ 0)
 
 -- a row of three connections with hand-off: nothing was lost to waiters since the latest ask,
 -- `missing` approvals were missed, and a connection was requested for each close
-abbrev pub HandsOverMissing : ℕ → List Told → Type 0
-HandsOverMissing missing told = let l : Ledger ℕ = after (opening_with (unchecked 3) 0 0) told in HandsOver l × (lost l ≡ 0) × (missed l ≡ missing) × (unasked l ≡ 0)
+abbrev pub HandsOverMissing : ℕ → List RowLine → Type 0
+HandsOverMissing missing lines = let l : Ledger ℕ = after (opening_with (unchecked 3) 0 0) lines in HandsOver l × (lost l ≡ 0) × (missed l ≡ missing) × (unasked l ≡ 0)
 
 -- a row of one connection without hand-off
-abbrev pub IsOvertaking : List Told → Type 0
-IsOvertaking told = HandsOver (after (opening_with (unchecked 1) 0 0) told) → ⊥
+abbrev pub IsOvertaking : List RowLine → Type 0
+IsOvertaking lines = HandsOver (after (opening_with (unchecked 1) 0 0) lines) → ⊥

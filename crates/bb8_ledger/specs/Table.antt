@@ -6,10 +6,10 @@ use Rattle.bb8_types.specs.declared.standing.Standing.{Standing}
 use Rattle.bb8_types.specs.declared.standing.Place.TheVariants.{Guarded, Held}
 use Rattle.bb8_types.specs.Settings.{is_lawful}
 use Rattle.bb8_types.specs.Numbered.{Numbered, update, one, after_end}
-use Rattle.bb8_ledger.specs.Acts.{Act, Begin, Try, CheckedOk, CheckedErr, GiveUp, PutBack, Detach, Fill, Ask, Claim, Opened, Failed, Add, Reap, Retire, State, Join, Leave, Close, Look, Reason}
+use Rattle.bb8_ledger.specs.Acts.{Act, Begin, Try, CheckedOk, CheckedErr, GiveUp, PutBack, Detach, Evict, Fill, Ask, Claim, Opened, Failed, Add, Reap, Retire, State, Join, Leave, Close, Look, Reason}
 use Rattle.bb8_ledger.specs.Answers.{Answer, Begun, Memory, Exhausted, Served, Taken, Waiting, Kept, Closed, GaveUp, Granted, Claimed, Ended, Entered, Late, GivenBack, Added, Broken, NoCapacity, Withheld, Reaped, Shown, Joined, Left, Looked, Unfit}
 use Rattle.bb8_ledger.specs.Ledger.{Ledger, Opening, Later, start, position, latest, records, handles, next, next_get, conns, approved, conns_of, approved_of, idle_of, alive, unnotified, idle_count, first_idle, oldest_waiter, unclaimed, peak, get_peak, record_of, get_of, at_place, reaped, outlived, idled, retiring, with_ended, retired, expires, asks_check, figures}
-use Rattle.bb8_types.specs.Places.{stands, gets_stand, holds, is_claimed, is_doubtful, is_guarded, is_unnotified, is_notified, is_trying}
+use Rattle.bb8_types.specs.Places.{stands, gets_stand, holds, is_claimed, is_doubtful, is_guarded, is_idle, is_unnotified, is_notified, is_trying}
 use Rattle.bb8_types.specs.Grants.{due, lacking, IsGranted, IsNoGrant}
 use Rattle.bb8_types.specs.Bounds.{end_of_numbers, most_handles}
 
@@ -27,6 +27,7 @@ module _ {C : Type 0} where
   fits l (GiveUp g why held broken) = is_some (get_of l g) && agree (is_some held) (is_some (holds (get_of l g)))
   fits l (PutBack k c broken) = stands is_guarded (record_of l k)
   fits l (Detach k) = stands is_guarded (record_of l k)
+  fits l (Evict k) = stands is_idle (record_of l k)
   fits l (Fill claimed) = true
   fits l Ask = true
   fits l Claim = true
@@ -115,6 +116,7 @@ module _ {C : Type 0} where
     returns_closed : {k : ℕ} {c : C} {broken : Bool} {grant : Grant} {n : Option ℕ} → closes l at k broken ≡ true
         → IsWant l (with_record l k after_end) grant → n ≡ oldest_waiter l → Row l at (PutBack k c broken) (Closed k grant n)
     detaches : {k : ℕ} {grant : Grant} {n : Option ℕ} → IsWant l (with_record l k after_end) grant → n ≡ oldest_waiter l → Row l at (Detach k) (Closed k grant n)
+    evicts : {k : ℕ} {grant : Grant} {n : Option ℕ} → IsWant l (with_record l k after_end) grant → n ≡ oldest_waiter l → Row l at (Evict k) (Closed k grant n)
     fills : {claimed : Bool} {grant : Grant} → IsWant l (records l) grant → Row l at (Fill claimed) (Granted grant)
     asks_for : {grant : Grant} → IsGranted (next l) (conns l + approved l) (peak l)
         (due (start l).config (handles l) (conns l + approved l) (unprovided l)) grant → Row l at Ask (Granted grant)

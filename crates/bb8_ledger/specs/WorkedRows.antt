@@ -1,12 +1,12 @@
--- The worked rows: what happens to a pool, line by line, with the answers that were worked out by hand, or that the original gave.
+-- The worked rows: what happens to a pool, line by line, with the results that were worked out by hand, or that the original gave.
 -- Written by gate/ledger_rows from crates/bb8_rows/stdin.
 use Rattle.std.specs.Prelude.{true, false, List, [], ◌∷◌, Some, None}
-use Rattle.bb8_ledger.specs.Acts.{Begin, Try, CheckedOk, CheckedErr, GiveUp, PutBack, Detach, Fill, Ask, Claim, Failed, Add, Reap, Retire, Join, Leave, Close, TimedOut, Cancelled}
+use Rattle.bb8_ledger.specs.Acts.{Begin, Try, CheckedOk, CheckedErr, GiveUp, PutBack, Detach, Evict, Fill, Ask, Claim, Failed, Add, Reap, Retire, Join, Leave, Close, TimedOut, Cancelled}
 use Rattle.bb8_ledger.specs.Answers.{Begun, Exhausted, Served, Taken, Waiting, Kept, Closed, GaveUp, Granted, Claimed, Ended, Entered, Late, GivenBack, Added, Broken, NoCapacity, Withheld, Reaped, Joined, Left, Unfit}
-use Rattle.bb8_ledger.specs.Rows.{Told, ◌▸◌⇒◌, grant◌at◌, opens, returns, adds}
+use Rattle.bb8_ledger.specs.Rows.{RowLine, ◌▸◌⇒◌, grant◌at◌, opens, returns, adds}
 
 -- two connections are to be idle: the two are opened
-abbrev pub two_opened : List Told
+abbrev pub two_opened : List RowLine
 two_opened =
     0 ▸ Fill false ⇒ Granted (grant 2 at 0)
     ∷ 0 ▸ Claim ⇒ Claimed (Some 0)
@@ -16,7 +16,7 @@ two_opened =
     ∷ []
 
 -- the two are opened and three gets take one each: what is idle is made good each time
-abbrev pub three_out : List Told
+abbrev pub three_out : List RowLine
 three_out =
     0 ▸ Fill false ⇒ Granted (grant 2 at 0)
     ∷ 0 ▸ Claim ⇒ Claimed (Some 0)
@@ -38,7 +38,7 @@ three_out =
     ∷ []
 
 -- of three added connections the one idle longest goes out first
-abbrev pub oldest_first : List Told
+abbrev pub oldest_first : List RowLine
 oldest_first =
     0 ▸ adds 0 ⇒ Added 0 None
     ∷ 0 ▸ adds 1 ⇒ Added 1 None
@@ -48,7 +48,7 @@ oldest_first =
     ∷ []
 
 -- of three added connections the one idle last goes out first
-abbrev pub newest_first : List Told
+abbrev pub newest_first : List RowLine
 newest_first =
     0 ▸ adds 0 ⇒ Added 0 None
     ∷ 0 ▸ adds 1 ⇒ Added 1 None
@@ -58,7 +58,7 @@ newest_first =
     ∷ []
 
 -- a fourth connection is refused, and a broken one is called broken although the pool is full
-abbrev pub added_until_full : List Told
+abbrev pub added_until_full : List RowLine
 added_until_full =
     0 ▸ Fill false ⇒ Granted (grant 1 at 0)
     ∷ 0 ▸ Claim ⇒ Claimed (Some 0)
@@ -69,8 +69,8 @@ added_until_full =
     ∷ 0 ▸ Add 3 true ⇒ Broken
     ∷ []
 
--- a number that was never given, or is not out, does not come back
-abbrev pub returned_unfit : List Told
+-- a number that was never given, or is not out, cannot be returned
+abbrev pub returned_unfit : List RowLine
 returned_unfit =
     0 ▸ adds 0 ⇒ Added 0 None
     ∷ 0 ▸ returns 7 ⇒ Unfit
@@ -81,8 +81,8 @@ returned_unfit =
     ∷ 0 ▸ returns 0 ⇒ Unfit
     ∷ []
 
--- a connection that comes back past its lifetime is closed (upstream's test_max_lifetime_reap_on_drop)
-abbrev pub returned_too_old : List Told
+-- a connection that is returned past its lifetime is closed (upstream's test_max_lifetime_reap_on_drop)
+abbrev pub returned_too_old : List RowLine
 returned_too_old =
     0 ▸ adds 0 ⇒ Added 0 None
     ∷ 0 ▸ Begin ⇒ Begun 0
@@ -91,7 +91,7 @@ returned_too_old =
     ∷ []
 
 -- a newer get takes the idle connection from the notified one, which waits again
-abbrev pub overtaken : List Told
+abbrev pub overtaken : List RowLine
 overtaken =
     0 ▸ Begin ⇒ Begun 0
     ∷ 0 ▸ Try 0 ⇒ Waiting (grant 1 at 0)
@@ -105,7 +105,7 @@ overtaken =
     ∷ []
 
 -- a close notifies the oldest waiter, whose try asks for another connection and waits anew, behind the others
-abbrev pub closed_puts_last : List Told
+abbrev pub closed_puts_last : List RowLine
 closed_puts_last =
     0 ▸ Begin ⇒ Begun 0
     ∷ 0 ▸ Try 0 ⇒ Waiting (grant 1 at 0)
@@ -124,7 +124,7 @@ closed_puts_last =
     ∷ []
 
 -- two closes: the oldest waiter goes behind another each time, and a newcomer is served before it, too
-abbrev pub passed_by_two : List Told
+abbrev pub passed_by_two : List RowLine
 passed_by_two =
     0 ▸ Begin ⇒ Begun 0
     ∷ 0 ▸ Try 0 ⇒ Waiting (grant 1 at 0)
@@ -150,7 +150,7 @@ passed_by_two =
     ∷ []
 
 -- after a close a get that is thrown away asks for the connection: who was notified keeps its place, and is served first
-abbrev pub closed_keeps_place : List Told
+abbrev pub closed_keeps_place : List RowLine
 closed_keeps_place =
     0 ▸ Begin ⇒ Begun 0
     ∷ 0 ▸ Try 0 ⇒ Waiting (grant 1 at 0)
@@ -173,7 +173,7 @@ closed_keeps_place =
     ∷ []
 
 -- a notified get is cancelled, and hands its notification on
-abbrev pub handed_on : List Told
+abbrev pub handed_on : List RowLine
 handed_on =
     0 ▸ Begin ⇒ Begun 0
     ∷ 0 ▸ Try 0 ⇒ Waiting (grant 1 at 0)
@@ -189,7 +189,7 @@ handed_on =
     ∷ []
 
 -- a wait of 5999 nanoseconds counts as 5 whole microseconds (upstream's test_state_get_contention)
-abbrev pub waited_five_micros : List Told
+abbrev pub waited_five_micros : List RowLine
 waited_five_micros =
     0 ▸ Fill false ⇒ Granted (grant 1 at 0)
     ∷ 0 ▸ Claim ⇒ Claimed (Some 0)
@@ -202,8 +202,8 @@ waited_five_micros =
     ∷ 5_999 ▸ Try 1 ⇒ Served 0 (grant 0 at 1)
     ∷ []
 
--- what came back is used again, and a second connection is opened only when a get finds none (upstream's test_reuse_on_drop)
-abbrev pub used_again : List Told
+-- a returned connection is used again, and a second one is opened only when a get finds none (upstream's test_reuse_on_drop)
+abbrev pub used_again : List RowLine
 used_again =
     0 ▸ Begin ⇒ Begun 0
     ∷ 0 ▸ Try 0 ⇒ Waiting (grant 1 at 0)
@@ -221,7 +221,7 @@ used_again =
     ∷ []
 
 -- a check fails, and the connection is broken: it counts as invalid and as broken
-abbrev pub check_failed : List Told
+abbrev pub check_failed : List RowLine
 check_failed =
     0 ▸ adds 0 ⇒ Added 0 None
     ∷ 0 ▸ Begin ⇒ Begun 0
@@ -230,7 +230,7 @@ check_failed =
     ∷ []
 
 -- both connections fail the check of a third get, which waits and times out (upstream's test_now_invalid)
-abbrev pub none_left_valid : List Told
+abbrev pub none_left_valid : List RowLine
 none_left_valid =
     0 ▸ Fill false ⇒ Granted (grant 2 at 0)
     ∷ 0 ▸ Claim ⇒ Claimed (Some 0)
@@ -254,8 +254,8 @@ none_left_valid =
     ∷ 5_000_000_000 ▸ GiveUp 2 TimedOut None false ⇒ GaveUp None
     ∷ []
 
--- a get is let go while it checks, and the waiter takes its connection; that one is let go with a broken one
-abbrev pub cancelled_in_check : List Told
+-- a get is cancelled while it checks, and the waiter takes its connection; that one is cancelled with a broken one
+abbrev pub cancelled_in_check : List RowLine
 cancelled_in_check =
     0 ▸ adds 0 ⇒ Added 0 None
     ∷ 0 ▸ Begin ⇒ Begun 0
@@ -267,8 +267,8 @@ cancelled_in_check =
     ∷ 0 ▸ GiveUp 1 Cancelled (Some 0) true ⇒ Closed 0 (grant 0 at 1) None
     ∷ []
 
--- a failed opening makes room and notifies nobody
-abbrev pub given_back : List Told
+-- a failed attempt frees a slot and notifies nobody
+abbrev pub given_back : List RowLine
 given_back =
     0 ▸ Begin ⇒ Begun 0
     ∷ 0 ▸ Try 0 ⇒ Waiting (grant 1 at 0)
@@ -281,7 +281,7 @@ given_back =
     ∷ []
 
 -- the last handle goes: ten idle connections end, the eleventh comes too late, and a reap ends as a claim does
-abbrev pub last_handle_left : List Told
+abbrev pub last_handle_left : List RowLine
 last_handle_left =
     0 ▸ Fill false ⇒ Granted (grant 11 at 0)
     ∷ 0 ▸ Claim ⇒ Claimed (Some 0)
@@ -312,8 +312,8 @@ last_handle_left =
     ∷ 0 ▸ Begin ⇒ Unfit
     ∷ []
 
--- both handles go while a connection is out: it is closed as it comes back and counts nowhere, and no handle joins
-abbrev pub returned_after_last_handle : List Told
+-- both handles are dropped while a connection is out: it is closed when it is returned and counts nowhere, and no handle joins
+abbrev pub returned_after_last_handle : List RowLine
 returned_after_last_handle =
     0 ▸ adds 0 ⇒ Added 0 None
     ∷ 0 ▸ Join ⇒ Joined
@@ -326,7 +326,7 @@ returned_after_last_handle =
     ∷ []
 
 -- both limits are one second: a reap closes nothing before, the connection at the second, and nothing twice (upstream's test_conn_is_expired)
-abbrev pub reaped_at_the_limit : List Told
+abbrev pub reaped_at_the_limit : List RowLine
 reaped_at_the_limit =
     0 ▸ adds 0 ⇒ Added 0 None
     ∷ 999_999_999 ▸ Reap ⇒ Reaped 0 0 0 (grant 0 at 1)
@@ -335,7 +335,7 @@ reaped_at_the_limit =
     ∷ []
 
 -- a moment goes back: the return counts as one at ten seconds
-abbrev pub moment_goes_back : List Told
+abbrev pub moment_goes_back : List RowLine
 moment_goes_back =
     10_000_000_000 ▸ adds 0 ⇒ Added 0 None
     ∷ 10_000_000_000 ▸ Begin ⇒ Begun 0
@@ -346,7 +346,7 @@ moment_goes_back =
     ∷ []
 
 -- no more are idle than min_idle: a reap closes none, though each is idle for the limit (where upstream's test_idle_timeout sees them drop)
-abbrev pub idled_out : List Told
+abbrev pub idled_out : List RowLine
 idled_out =
     0 ▸ Fill false ⇒ Granted (grant 5 at 0)
     ∷ 0 ▸ Claim ⇒ Claimed (Some 0)
@@ -368,7 +368,7 @@ idled_out =
     ∷ []
 
 -- five are idle for the limit: a reap closes those beyond min_idle, the one that entered first before the others
-abbrev pub spared_oldest : List Told
+abbrev pub spared_oldest : List RowLine
 spared_oldest =
     0 ▸ adds 0 ⇒ Added 0 None
     ∷ 0 ▸ adds 1 ⇒ Added 1 None
@@ -381,7 +381,7 @@ spared_oldest =
     ∷ []
 
 -- the same of a pool that serves the newest: the newer of the two that are left goes out
-abbrev pub spared_newest : List Told
+abbrev pub spared_newest : List RowLine
 spared_newest =
     0 ▸ adds 0 ⇒ Added 0 None
     ∷ 0 ▸ adds 1 ⇒ Added 1 None
@@ -394,7 +394,7 @@ spared_newest =
     ∷ []
 
 -- one lives too long and three are idle too long: a reap closes the one, and then one of the three
-abbrev pub spared_after_expired : List Told
+abbrev pub spared_after_expired : List RowLine
 spared_after_expired =
     0 ▸ adds 0 ⇒ Added 0 None
     ∷ 1_000_000_000 ▸ adds 1 ⇒ Added 1 None
@@ -405,7 +405,7 @@ spared_after_expired =
     ∷ []
 
 -- both live too long: min_idle spares none of them
-abbrev pub expired_not_spared : List Told
+abbrev pub expired_not_spared : List RowLine
 expired_not_spared =
     0 ▸ adds 0 ⇒ Added 0 None
     ∷ 0 ▸ adds 1 ⇒ Added 1 None
@@ -413,7 +413,7 @@ expired_not_spared =
     ∷ []
 
 -- a connection idle for less than `test_after`, one second, goes out unchecked, and at the second it is checked
-abbrev pub checked_after_a_second : List Told
+abbrev pub checked_after_a_second : List RowLine
 checked_after_a_second =
     0 ▸ adds 0 ⇒ Added 0 None
     ∷ 0 ▸ Begin ⇒ Begun 0
@@ -425,7 +425,7 @@ checked_after_a_second =
     ∷ []
 
 -- a get gives up in mid check: with `test_after` its connection counts as broken and is closed
-abbrev pub doubted_in_check : List Told
+abbrev pub doubted_in_check : List RowLine
 doubted_in_check =
     0 ▸ adds 0 ⇒ Added 0 None
     ∷ 0 ▸ Begin ⇒ Begun 0
@@ -437,7 +437,7 @@ doubted_in_check =
     ∷ []
 
 -- idleness counts from the latest entry, by effective moments
-abbrev pub fresh_since_its_entry : List Told
+abbrev pub fresh_since_its_entry : List RowLine
 fresh_since_its_entry =
     0 ▸ Begin ⇒ Begun 0
     ∷ 0 ▸ Try 0 ⇒ Waiting (grant 1 at 0)
@@ -453,8 +453,8 @@ fresh_since_its_entry =
     ∷ 210 ▸ CheckedOk 2 ⇒ Served 0 (grant 0 at 1)
     ∷ []
 
--- at 1 all are retired: the idle one closes at once, the one that is out when it comes back, and one that is born later stays
-abbrev pub retired_at_one : List Told
+-- at 1 all are retired: the idle one closes at once, the one that is out when it is returned, and one that is born later stays
+abbrev pub retired_at_one : List RowLine
 retired_at_one =
     0 ▸ adds 0 ⇒ Added 0 None
     ∷ 0 ▸ adds 1 ⇒ Added 1 None
@@ -466,8 +466,8 @@ retired_at_one =
     ∷ 4 ▸ Reap ⇒ Reaped 0 0 0 (grant 0 at 3)
     ∷ []
 
--- an opening is under way at a retire: its connection comes too late, and whoever waits for it is served with a new one
-abbrev pub retired_while_opening : List Told
+-- an attempt is in progress at a retire: its connection comes too late, and the waiter is served with a new one
+abbrev pub retired_while_opening : List RowLine
 retired_while_opening =
     0 ▸ Fill true ⇒ Granted (grant 1 at 0)
     ∷ 1 ▸ Retire ⇒ Reaped 0 0 0 (grant 0 at 1)
@@ -483,7 +483,7 @@ retired_while_opening =
     ∷ []
 
 -- `min_idle` spares nothing at a retire and is made good, and what that brings is not retired
-abbrev pub retired_and_made_good : List Told
+abbrev pub retired_and_made_good : List RowLine
 retired_and_made_good =
     0 ▸ adds 0 ⇒ Added 0 None
     ∷ 0 ▸ adds 1 ⇒ Added 1 None
@@ -496,7 +496,7 @@ retired_and_made_good =
     ∷ []
 
 -- a guard leaves with its connection for good: the oldest waiter is notified and asks for another; it leaves once, and counts as closed nowhere
-abbrev pub detached_once : List Told
+abbrev pub detached_once : List RowLine
 detached_once =
     0 ▸ adds 0 ⇒ Added 0 None
     ∷ 0 ▸ Begin ⇒ Begun 0
@@ -510,7 +510,7 @@ detached_once =
     ∷ []
 
 -- two guards leave past the lifetime: `min_idle` is made good each time, and the oldest of two waiters is notified
-abbrev pub detached_and_made_good : List Told
+abbrev pub detached_and_made_good : List RowLine
 detached_and_made_good =
     0 ▸ adds 0 ⇒ Added 0 None
     ∷ 0 ▸ adds 1 ⇒ Added 1 None
@@ -530,8 +530,39 @@ detached_and_made_good =
     ∷ 5 ▸ Detach 0 ⇒ Closed 0 (grant 1 at 3) (Some 2)
     ∷ []
 
--- an opening is given up, and who waits gets no approval by trying again: an ask grants it one, and no more
-abbrev pub asked_anew : List Told
+-- idle connections past the lifetime are evicted by their numbers: they leave the queue, `min_idle` is made good, and they count as detached
+abbrev pub evicted_and_made_good : List RowLine
+evicted_and_made_good =
+    0 ▸ adds 0 ⇒ Added 0 None
+    ∷ 0 ▸ adds 1 ⇒ Added 1 None
+    ∷ 0 ▸ adds 2 ⇒ Added 2 None
+    ∷ 5 ▸ Evict 1 ⇒ Closed 1 (grant 0 at 3) None
+    ∷ 5 ▸ Evict 1 ⇒ Unfit
+    ∷ 5 ▸ Evict 0 ⇒ Closed 0 (grant 1 at 3) None
+    ∷ 5 ▸ Claim ⇒ Claimed (Some 3)
+    ∷ 5 ▸ opens 3 ⇒ Entered 3 None
+    ∷ 5 ▸ Begin ⇒ Begun 0
+    ∷ 5 ▸ Try 0 ⇒ Served 2 (grant 1 at 4)
+    ∷ []
+
+-- an idle connection is evicted before the notified waiter takes it: the next waiter is notified, too
+abbrev pub evicted_from_waiter : List RowLine
+evicted_from_waiter =
+    0 ▸ adds 0 ⇒ Added 0 None
+    ∷ 0 ▸ Begin ⇒ Begun 0
+    ∷ 0 ▸ Try 0 ⇒ Served 0 (grant 0 at 1)
+    ∷ 0 ▸ Begin ⇒ Begun 1
+    ∷ 0 ▸ Try 1 ⇒ Waiting (grant 0 at 1)
+    ∷ 0 ▸ Begin ⇒ Begun 2
+    ∷ 0 ▸ Try 2 ⇒ Waiting (grant 0 at 1)
+    ∷ 0 ▸ returns 0 ⇒ Kept 0 (Some 1)
+    ∷ 0 ▸ Evict 0 ⇒ Closed 0 (grant 0 at 1) (Some 2)
+    ∷ 0 ▸ Try 1 ⇒ Waiting (grant 1 at 1)
+    ∷ 0 ▸ Try 2 ⇒ Waiting (grant 0 at 2)
+    ∷ []
+
+-- an attempt is given up, and the waiter gets no approval by trying again: an ask grants it one, and no more
+abbrev pub asked_anew : List RowLine
 asked_anew =
     0 ▸ Begin ⇒ Begun 0
     ∷ 0 ▸ Try 0 ⇒ Waiting (grant 1 at 0)
@@ -546,8 +577,8 @@ asked_anew =
     ∷ []
 
 -- a close notifies a get, though it brings nothing: an ask grants nothing for that one, as its own try asks
-abbrev pub asked_for_told : List Told
-asked_for_told =
+abbrev pub asked_for_notified : List RowLine
+asked_for_notified =
     0 ▸ Begin ⇒ Begun 0
     ∷ 0 ▸ Try 0 ⇒ Waiting (grant 1 at 0)
     ∷ 0 ▸ Begin ⇒ Begun 1
@@ -566,8 +597,8 @@ asked_for_told =
     ∷ 0 ▸ Try 1 ⇒ Waiting (grant 1 at 4)
     ∷ []
 
--- three wait for two places: an ask grants no more than there is room for
-abbrev pub asked_up_to_the_size : List Told
+-- three wait for two slots: an ask grants no more than there are slots
+abbrev pub asked_up_to_the_size : List RowLine
 asked_up_to_the_size =
     0 ▸ Begin ⇒ Begun 0
     ∷ 0 ▸ Try 0 ⇒ Waiting (grant 1 at 0)
@@ -587,8 +618,8 @@ asked_up_to_the_size =
     ∷ 0 ▸ Ask ⇒ Granted (grant 0 at 4)
     ∷ []
 
--- two handles, one connection out, one idle, one approval: a close ends the last two and leaves no handle; who waits gives up, and what comes back is closed
-abbrev pub shut_once : List Told
+-- two handles, one connection out, one idle, one approval: a close ends the last two and leaves no handle; the waiter gives up, and the returned connection is closed
+abbrev pub shut_once : List RowLine
 shut_once =
     0 ▸ Join ⇒ Joined
     ∷ 0 ▸ adds 0 ⇒ Added 0 None
@@ -610,7 +641,7 @@ shut_once =
     ∷ []
 
 -- a pool is closed while three gets wait: each is given up, and the notified one hands its notification on
-abbrev pub shut_with_waiters : List Told
+abbrev pub shut_with_waiters : List RowLine
 shut_with_waiters =
     0 ▸ adds 0 ⇒ Added 0 None
     ∷ 0 ▸ Begin ⇒ Begun 0
@@ -631,14 +662,14 @@ shut_with_waiters =
     ∷ []
 
 -- one get takes the last number that is left, and the next one finds none
-abbrev pub get_numbers_used_up : List Told
+abbrev pub get_numbers_used_up : List RowLine
 get_numbers_used_up =
     0 ▸ Begin ⇒ Begun 18_446_744_073_709_551_614
     ∷ 0 ▸ Begin ⇒ Exhausted
     ∷ []
 
 -- the approvals that are wanted take the last two numbers: one more is withheld, and so is an adding, but a broken connection is called broken
-abbrev pub numbers_used_up : List Told
+abbrev pub numbers_used_up : List RowLine
 numbers_used_up =
     0 ▸ Fill false ⇒ Granted (record { first = 18_446_744_073_709_551_613; count = 2; withheld = 1 })
     ∷ 0 ▸ adds 18_446_744_073_709_551_615 ⇒ Withheld
@@ -647,7 +678,7 @@ numbers_used_up =
     ∷ []
 
 -- memory for the third place is refused: what is wanted is withheld, and granted at the next ask
-abbrev pub third_place_refused : List Told
+abbrev pub third_place_refused : List RowLine
 third_place_refused =
     0 ▸ Fill false ⇒ Granted (grant 2 at 0)
     ∷ 0 ▸ Claim ⇒ Claimed (Some 0)
@@ -661,7 +692,7 @@ third_place_refused =
     ∷ []
 
 -- there were two connections once: a second one needs no memory, but a third one does, which is added at the next ask
-abbrev pub third_adding_withheld : List Told
+abbrev pub third_adding_withheld : List RowLine
 third_adding_withheld =
     0 ▸ adds 0 ⇒ Added 0 None
     ∷ 0 ▸ adds 1 ⇒ Added 1 None
@@ -674,7 +705,7 @@ third_adding_withheld =
     ∷ []
 
 -- the first script: three gets are served while two connections are kept idle, and all return (upstream's test_min_idle)
-abbrev pub first_script : List Told
+abbrev pub first_script : List RowLine
 first_script =
     0 ▸ Fill false ⇒ Granted (grant 2 at 0)
     ∷ 0 ▸ Claim ⇒ Claimed (Some 0)

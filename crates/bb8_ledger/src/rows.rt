@@ -3,7 +3,7 @@ ghost use Rattle.std.specs.Prelude.{[], ◌∷◌};
 ghost use Rattle.bb8_types.specs.declared.api.configuration.QueueStrategy.TheVariants.{Lifo};
 ghost use Rattle.bb8_types.specs.Settings.{default_settings};
 ghost use Rattle.bb8_ledger.specs.Rows.{IsRow, HandsOverLosing, HandsOverMissing, IsOvertaking, IsBackOff, unchecked, connections◌idle◌started◌direct◌waited◌timed_out◌cancelled◌wait_us◌created◌broken◌invalid◌lifetime◌idle_timeout◌, ◌retired◌, ◌detached◌};
-ghost use Rattle.bb8_ledger.specs.WorkedRows.{two_opened, three_out, first_script, overtaken, closed_puts_last, passed_by_two, closed_keeps_place, handed_on, oldest_first, newest_first, check_failed, reaped_at_the_limit, moment_goes_back, get_numbers_used_up, numbers_used_up, third_place_refused, third_adding_withheld, added_until_full, returned_unfit, none_left_valid, last_handle_left, waited_five_micros, used_again, idled_out, spared_oldest, spared_newest, spared_after_expired, expired_not_spared, returned_too_old, cancelled_in_check, given_back, returned_after_last_handle, checked_after_a_second, doubted_in_check, fresh_since_its_entry, detached_once, detached_and_made_good, retired_at_one, retired_while_opening, retired_and_made_good, asked_anew, asked_for_told, asked_up_to_the_size, shut_once, shut_with_waiters};
+ghost use Rattle.bb8_ledger.specs.WorkedRows.{two_opened, three_out, first_script, overtaken, closed_puts_last, passed_by_two, closed_keeps_place, handed_on, oldest_first, newest_first, check_failed, reaped_at_the_limit, moment_goes_back, get_numbers_used_up, numbers_used_up, third_place_refused, third_adding_withheld, added_until_full, returned_unfit, none_left_valid, last_handle_left, waited_five_micros, used_again, idled_out, spared_oldest, spared_newest, spared_after_expired, expired_not_spared, returned_too_old, cancelled_in_check, given_back, returned_after_last_handle, checked_after_a_second, doubted_in_check, fresh_since_its_entry, detached_once, detached_and_made_good, evicted_and_made_good, evicted_from_waiter, retired_at_one, retired_while_opening, retired_and_made_good, asked_anew, asked_for_notified, asked_up_to_the_size, shut_once, shut_with_waiters};
 
 /// Worked rows, proved of the definitions alone; the function has no body. Each clause except the
 /// last five is about one row: the step table allows the result of each line, from the row's
@@ -53,6 +53,16 @@ pub fn worked_rows()
         0 0 detached_and_made_good
         (connections 1 idle 0 started 4 direct 2 waited 1 timed_out 0 cancelled 0
         wait_us 0 created 1 broken 0 invalid 0 lifetime 0 idle_timeout 0 detached 2) }
+    ensures evicted_and_made_good { IsRow (record (unchecked 3) {
+      min_idle = Some 2;
+      max_lifetime = Some 1;
+    })
+        0 0 evicted_and_made_good
+        (connections 2 idle 1 started 1 direct 1 waited 0 timed_out 0 cancelled 0
+        wait_us 0 created 1 broken 0 invalid 0 lifetime 0 idle_timeout 0 detached 2) }
+    ensures evicted_from_waiter { IsRow (unchecked 1) 0 0 evicted_from_waiter
+        (connections 0 idle 0 started 3 direct 1 waited 0 timed_out 0 cancelled 0
+        wait_us 0 created 0 broken 0 invalid 0 lifetime 0 idle_timeout 0 detached 1) }
     ensures retired_at_one { IsRow (unchecked 2) 0 0 retired_at_one
         (connections 1 idle 1 started 1 direct 1 waited 0 timed_out 0 cancelled 0
         wait_us 0 created 0 broken 0 invalid 0 lifetime 0 idle_timeout 0 retired 2) }
@@ -67,7 +77,7 @@ pub fn worked_rows()
     ensures asked_anew { IsRow (unchecked 2) 0 0 asked_anew
         (connections 1 idle 0 started 1 direct 0 waited 1 timed_out 0 cancelled 0
         wait_us 0 created 1 broken 0 invalid 0 lifetime 0 idle_timeout 0) }
-    ensures asked_for_told { IsRow (unchecked 3) 0 0 asked_for_told
+    ensures asked_for_notified { IsRow (unchecked 3) 0 0 asked_for_notified
         (connections 0 idle 0 started 3 direct 0 waited 1 timed_out 0 cancelled 0
         wait_us 0 created 1 broken 1 invalid 0 lifetime 0 idle_timeout 0) }
     ensures asked_up_to_the_size { IsRow (unchecked 2) 0 0 asked_up_to_the_size
@@ -212,7 +222,7 @@ pub fn worked_rows()
         wait_us 0 created 0 broken 0 invalid 0 lifetime 0 idle_timeout 0) }
     ensures order { IsOvertaking overtaken × HandsOverLosing 0 closed_keeps_place
         × HandsOverLosing 1 closed_puts_last × HandsOverLosing 2 passed_by_two }
-    ensures asked_for_all { HandsOverMissing 0 asked_anew × HandsOverMissing 2 asked_for_told }
+    ensures asked_for_all { HandsOverMissing 0 asked_anew × HandsOverMissing 2 asked_for_notified }
     ensures waits_of_one_second { IsBackOff 1_000_000_000
         (400_000_000 ∷ 500_000_000 ∷ 500_000_000 ∷ []) 2 }
     ensures waits_of_thirty_seconds { IsBackOff 30_000_000_000

@@ -18,7 +18,7 @@
 #![tactic(auto)]
 
 ghost use Rattle.std.specs.Prelude.{◌<◌, false};
-ghost use Rattle.bb8.specs.Parts.{IsBlankOf};
+ghost use Rattle.bb8.specs.Permits.{IsBlankOf};
 ghost use Rattle.bb8.specs.Settings.{default_settings};
 
 mod manager;
@@ -26,8 +26,10 @@ mod rounds;
 mod waiting;
 mod waking;
 
-use bb8::{Builder, Clock, MachineClock, Memory, Moment, PoolCalls, PoolParts, Runtime, SetClock};
-use bb8_blocking::Blocking;
+use bb8::{
+    Blocking, Builder, Clock, MachineClock, Memory, Moment, PoolCalls, PoolPermits, Runtime,
+    SetClock,
+};
 use manager::{NumberManager, NumberPool, StillClock};
 use rounds::{blocked, polled, polled_ready, shared};
 use std::marker::Brand;
@@ -40,7 +42,7 @@ use waking::woken;
 /// The default number of threads.
 const THREADS: usize = 4;
 
-/// What is measured.
+/// The measurement of a run.
 #[derive(Clone, Copy)]
 enum Measure {
     Hand,
@@ -73,7 +75,7 @@ fn mode_of(name: &str, threads: usize) -> Option<Measure> {
 }
 
 /// Returns a pool of this many idle connections.
-fn full<K: Clock, R: Runtime, L: PoolParts>(
+fn full<K: Clock, R: Runtime, L: PoolPermits>(
     rt: R,
     clock: K,
     blank: Blank,
@@ -97,7 +99,7 @@ fn full<K: Clock, R: Runtime, L: PoolParts>(
 
 /// Runs a measure of one thread on a clock that is set, with the check on or off. Returns how many
 /// gets were served.
-fn alone<R: Runtime, L: PoolParts>(
+fn alone<R: Runtime, L: PoolPermits>(
     rt: R,
     blank: Blank,
     mode: Measure,
@@ -121,7 +123,7 @@ fn alone<R: Runtime, L: PoolParts>(
 
 /// Runs a measure on the machine's clock, in one thread or several, with the check on or off.
 /// Returns how many gets were served.
-fn clocked<R: Runtime + Threads, L: PoolParts>(
+fn clocked<R: Runtime + Threads, L: PoolPermits>(
     rt: R,
     blank: Blank,
     mode: Measure,
@@ -143,9 +145,9 @@ fn clocked<R: Runtime + Threads, L: PoolParts>(
     }
 }
 
-/// Runs a measure of waiting gets, on a clock that stands still, so that the code of the other
+/// Runs a measure of waiting gets, on a clock that never moves, so that the code of the other
 /// measures is compiled for them alone. Returns how many gets were served, or waited.
-fn crowded<R: Runtime, L: PoolParts>(
+fn crowded<R: Runtime, L: PoolPermits>(
     rt: R,
     blank: Blank,
     mode: Measure,

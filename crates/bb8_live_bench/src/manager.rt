@@ -1,11 +1,13 @@
 //! The measured manager and pool.
 
-use bb8::{Clock, GetFuture, Moment, NopCustomizer, NopErrorSink, Pool, PooledConnection};
-use bb8_blocking::{Blocking, BlockingManager};
+use bb8::{
+    Blocking, BlockingManager, Clock, GetFuture, Moment, NopCustomizer, NopErrorSink, Pool,
+    PooledConnection,
+};
 use std::error::Error;
 use std::fmt;
 
-/// A clock that stands still.
+/// A clock that never moves.
 #[derive(Drop)]
 pub struct StillClock;
 

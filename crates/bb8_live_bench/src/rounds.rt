@@ -1,7 +1,7 @@
 //! The rounds of a benchmark.
 
 use crate::manager::NumberPool;
-use bb8::{Clock, Gets, Job, Memory, PoolParts, Runtime, in_threads};
+use bb8::{Clock, Gets, Job, Memory, PoolPermits, Runtime, in_threads};
 use futures::executor::block_on;
 use futures::future::ready;
 use futures::task::Poll;
@@ -9,7 +9,7 @@ use futures::test::MockTask;
 use std::thread::Threads;
 
 /// Makes gets, each polled once by hand, and drops their guards. Returns how many were served.
-pub fn polled<K: Clock, R: Runtime, L: PoolParts>(
+pub fn polled<K: Clock, R: Runtime, L: PoolPermits>(
     rt: &R,
     pool: &NumberPool<K, R, L>,
     rounds: u64,
@@ -28,7 +28,7 @@ pub fn polled<K: Clock, R: Runtime, L: PoolParts>(
 }
 
 /// Makes gets as `polled` does, with an executor for each.
-pub fn blocked<K: Clock, R: Runtime, L: PoolParts>(
+pub fn blocked<K: Clock, R: Runtime, L: PoolPermits>(
     rt: &R,
     pool: &NumberPool<K, R, L>,
     rounds: u64,
@@ -59,15 +59,15 @@ pub fn polled_ready<R: Runtime>(rt: &R, rounds: u64) -> Result<u64, Memory> {
 
 /// Gets, each polled once by hand, whose guards are dropped.
 #[derive(Drop)]
-struct Rounds<'a, K: Clock, R: Runtime, L: PoolParts> {
+struct Rounds<'a, K: Clock, R: Runtime, L: PoolPermits> {
     pool: &'a NumberPool<K, R, L>,
     rt: R,
     rounds: u64,
 }
 
-impl<K: Clock, R: Runtime, L: PoolParts> Job for &Rounds<'_, K, R, L> {
+impl<K: Clock, R: Runtime, L: PoolPermits> Job for &Rounds<'_, K, R, L> {
     /// The number of served gets.
-    type Told = u64;
+    type Output = u64;
 
     fn run(self, _thread: usize) -> u64 {
         let Ok(task) = MockTask::new(&self.rt) else {
@@ -85,7 +85,7 @@ impl<K: Clock, R: Runtime, L: PoolParts> Job for &Rounds<'_, K, R, L> {
 }
 
 /// Runs this many threads of this many rounds each.
-pub fn shared<K: Clock, R: Runtime + Threads, L: PoolParts>(
+pub fn shared<K: Clock, R: Runtime + Threads, L: PoolPermits>(
     rt: R,
     pool: &NumberPool<K, R, L>,
     rounds: u64,

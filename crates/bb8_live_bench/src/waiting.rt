@@ -1,7 +1,7 @@
 //! Gets that wait while all connections are checked out.
 
 use crate::manager::{NumberGet, NumberGuard, NumberPool};
-use bb8::{Clock, Gets, Memory, PoolParts, Runtime};
+use bb8::{Clock, Gets, Memory, PoolPermits, Runtime};
 use futures::task::Poll;
 use futures::test::MockTask;
 
@@ -10,14 +10,14 @@ const POLLS: u64 = 200_000;
 
 /// Waiting gets, and the guards that they wait for.
 #[derive(Drop)]
-struct Crowd<'a, K: Clock, R: Runtime, L: PoolParts> {
+struct Crowd<'a, K: Clock, R: Runtime, L: PoolPermits> {
     task: MockTask,
     guards: Vec<NumberGuard<'a, K, R, L>>,
     gets: Vec<NumberGet<'a, K, R, L>>,
 }
 
 /// Checks all connections out, and has this many gets wait, each polled once by hand.
-fn waiting<'a, K: Clock, R: Runtime, L: PoolParts>(
+fn waiting<'a, K: Clock, R: Runtime, L: PoolPermits>(
     rt: &R,
     pool: &'a NumberPool<K, R, L>,
     gets: u64,
@@ -47,7 +47,7 @@ fn waiting<'a, K: Clock, R: Runtime, L: PoolParts>(
 
 /// Has this many gets wait. Then it drops the guards one after another, and each time polls the
 /// longest waiter by hand. Returns how many were served.
-pub fn served_in_turn<K: Clock, R: Runtime, L: PoolParts>(
+pub fn served_in_turn<K: Clock, R: Runtime, L: PoolPermits>(
     rt: &R,
     pool: &NumberPool<K, R, L>,
     gets: u64,
@@ -70,7 +70,7 @@ pub fn served_in_turn<K: Clock, R: Runtime, L: PoolParts>(
 }
 
 /// Has this many gets wait, and polls the last one by hand many times. Returns how many wait.
-pub fn kept_waiting<K: Clock, R: Runtime, L: PoolParts>(
+pub fn kept_waiting<K: Clock, R: Runtime, L: PoolPermits>(
     rt: &R,
     pool: &NumberPool<K, R, L>,
     gets: u64,
@@ -87,7 +87,7 @@ pub fn kept_waiting<K: Clock, R: Runtime, L: PoolParts>(
 }
 
 /// Has this many gets wait, and cancels them. Returns how many there were.
-pub fn let_go<K: Clock, R: Runtime, L: PoolParts>(
+pub fn let_go<K: Clock, R: Runtime, L: PoolPermits>(
     rt: &R,
     pool: &NumberPool<K, R, L>,
     gets: u64,

@@ -2,10 +2,9 @@
 
 use crate::manager::{NumberManager, NumberPool};
 use bb8::{
-    Builder, Clock as PoolClock, MachineClock, NopCustomizer, NopErrorSink, PoolCalls, PoolParts,
-    Runtime, Service,
+    Blocking, Builder, Clock as PoolClock, MachineClock, NopCustomizer, NopErrorSink, PoolCalls,
+    PoolPermits, Runtime, Service,
 };
-use bb8_blocking::Blocking;
 use std::sync::atomic::{AtomicU64, Ordering};
 use std::thread;
 use std::thread::Threads;
@@ -25,31 +24,31 @@ struct Turns<R> {
 impl<R: Runtime> Service<Blocking<NumberManager>, NopErrorSink, NopCustomizer, MachineClock<R>, R>
     for Turns<R> {
     /// The nanoseconds from a return to the result of each get that waited for it.
-    type Told = Option<Vec<u64>>;
+    type Output = Option<Vec<u64>>;
 
     /// Their median and 95th percentile.
     type Outcome = Option<(u64, u64)>;
 
-    fn begin<L: PoolParts>(
+    fn begin<L: PoolPermits>(
         &self,
         _pool: &NumberPool<MachineClock<R>, R, L>,
     ) -> Result<(), Option<(u64, u64)>> {
         Ok(())
     }
 
-    fn run<L: PoolParts>(
+    fn run<L: PoolPermits>(
         &self,
         pool: &NumberPool<MachineClock<R>, R, L>,
         _thread: usize,
     ) -> Option<Vec<u64>> {
-        let mut told = Vec::new(self.rt.alloc());
+        let mut results = Vec::new(self.rt.alloc());
         for _ in 0..self.rounds {
             let asked = PoolClock::now(&MachineClock(self.rt)).0;
             let guard = pool.get_blocking().ok()?;
             let served = PoolClock::now(&MachineClock(self.rt)).0;
             let returned = self.returned.load(Ordering::SeqCst);
             if asked < returned {
-                told.push(served.saturating_sub(returned)).ok()?;
+                results.push(served.saturating_sub(returned)).ok()?;
             }
             thread::sleep(&self.rt, Duration::from_millis(2));
             self.returned
@@ -57,16 +56,16 @@ impl<R: Runtime> Service<Blocking<NumberManager>, NopErrorSink, NopCustomizer, M
             drop(guard);
             thread::sleep(&self.rt, Duration::from_millis(1));
         }
-        Some(told)
+        Some(results)
     }
 
-    fn end<L: PoolParts>(
+    fn end<L: PoolPermits>(
         &self,
         _pool: &NumberPool<MachineClock<R>, R, L>,
-        told: &[Option<Vec<u64>>],
+        results: &[Option<Vec<u64>>],
     ) -> Option<(u64, u64)> {
         let mut all = Vec::new(self.rt.alloc());
-        for one in told {
+        for one in results {
             for after in one.as_ref()?.iter() {
                 all.push(*after).ok()?;
             }

@@ -2,7 +2,7 @@
 //! the other calls.
 
 use bb8::pool::Pool;
-use bb8::{Detach, Given, ManageConnection, PoolCalls, PoolParts};
+use bb8::{Detach, ManageConnection, PoolCalls, PoolPermits, PoolTypes};
 use bb8_trials::{LentHandle, OwnedHandle};
 use std::alloc::Global;
 use std::sync::Wait;
@@ -20,7 +20,7 @@ pub trait LentEnding<M: ManageConnection>: LentHandle<M> {
     fn detach_owned(guard: Self::OwnedGuard) -> M::Connection;
 }
 
-impl<'a, G: Given<Runtime: Wait>, L: PoolParts> LentEnding<G::Manager> for &'a Pool<G, L> {
+impl<'a, G: PoolTypes<Runtime: Wait>, L: PoolPermits> LentEnding<G::Manager> for &'a Pool<G, L> {
     fn retire(self, alloc: Global) {
         PoolCalls::retire(self, alloc);
     }
@@ -53,7 +53,7 @@ pub trait OwnedEnding<M: ManageConnection>: OwnedHandle<M> {
     fn detach(guard: Self::OwnedGuard) -> M::Connection;
 }
 
-impl<G: Given<Runtime: Wait>, L: PoolParts> OwnedEnding<G::Manager> for Pool<G, L> {
+impl<G: PoolTypes<Runtime: Wait>, L: PoolPermits> OwnedEnding<G::Manager> for Pool<G, L> {
     fn retire(&self, alloc: Global) {
         PoolCalls::retire(self, alloc);
     }

@@ -1,6 +1,6 @@
 //! Builds a script's pool with its permits, in this one place.
 ghost use Rattle.std.specs.Prelude.{◌≡◌, true};
-ghost use Rattle.bb8.specs.Parts.{IsBlankOf};
+ghost use Rattle.bb8.specs.Permits.{IsBlankOf};
 ghost use Rattle.bb8.specs.Settings.{settings_of, is_lawful};
 
 use crate::asked::{Asked, Handles, Lent};
@@ -9,7 +9,7 @@ use crate::play::{Play, Setup, set_board};
 use crate::preparing::Preparer;
 use crate::shelf::Shelf;
 use bb8::{
-    Builder, Building, Config, Driver, Memory, Moment, Pool, PoolCalls, PoolParts, Runtime,
+    Builder, Building, Config, Driver, Memory, Moment, Pool, PoolCalls, PoolPermits, Runtime,
     SetClock,
 };
 use bb8_runner::fault::Fault;
@@ -101,7 +101,7 @@ fn builder_of(
 }
 
 /// Runs the lines after the beginning, which is preceded by `lines` lines.
-fn perform<A: Asked, R: Runtime, L: PoolParts>(
+fn perform<A: Asked, R: Runtime, L: PoolPermits>(
     asked: A,
     drivers: Shelf<LiveDriver<R, L>>,
     setup: Setup,
@@ -119,7 +119,7 @@ fn perform<A: Asked, R: Runtime, L: PoolParts>(
 }
 
 /// Runs a script with handles by reference.
-fn lend<P: LentEnding<Server> + Drop, R: Runtime, L: PoolParts>(
+fn lend<P: LentEnding<Server> + Drop, R: Runtime, L: PoolPermits>(
     lent: (P, Option<P>),
     drivers: Shelf<LiveDriver<R, L>>,
     setup: Setup,
@@ -131,7 +131,7 @@ fn lend<P: LentEnding<Server> + Drop, R: Runtime, L: PoolParts>(
 }
 
 /// Runs a script that owns its handles, or polls the build of its pool.
-fn hold<B: Unbuilt<Server, Pool: OwnedEnding<Server>>, R: Runtime, L: PoolParts>(
+fn hold<B: Unbuilt<Server, Pool: OwnedEnding<Server>>, R: Runtime, L: PoolPermits>(
     held: (Option<B>, Shelf<B::Pool>),
     drivers: Shelf<LiveDriver<R, L>>,
     setup: Setup,
@@ -150,7 +150,7 @@ fn hold<B: Unbuilt<Server, Pool: OwnedEnding<Server>>, R: Runtime, L: PoolParts>
 
 /// Returns a pool with these settings. None if its first connections were not there after two polls
 /// of its build.
-fn pool_of<R: Runtime, L: PoolParts>(
+fn pool_of<R: Runtime, L: PoolPermits>(
     rt: R,
     blank: Blank,
     builder: LiveBuilder,
@@ -177,7 +177,7 @@ fn pool_of<R: Runtime, L: PoolParts>(
 }
 
 /// Runs a script over a pool with these permits.
-fn play_on<R: Runtime, L: PoolParts>(
+fn play_on<R: Runtime, L: PoolPermits>(
     rt: R,
     blank: Blank,
     builder: LiveBuilder,

@@ -1,14 +1,15 @@
-//! Scripts of live pools, run line by line: real pools, with a server that replies as the script
-//! says, a clock that the script sets, and a driver that it turns. docs/SCRIPTS.md, "Live pools",
-//! has the format.
+//! Runs transcripts: on the core, or on live pools, with a server that replies as the script says,
+//! a clock that the script sets, and a driver that it turns. docs/SCRIPTS.md has the formats.
 #![tactic(auto)]
 
 use bb8::Runtime;
 use bb8_runner::fault::Fault;
 use bb8_runner::report::Report;
+use bb8_runner::script::run_script;
 use bb8_runner::streams::{Sink, Source};
-use bb8_runner::transcripts::transcripts_of;
-use std::str;
+use bb8_runner::transcripts::{Kind, transcripts_of};
+use std::alloc::Global;
+use std::{io, str};
 
 mod answer;
 mod asked;
@@ -17,10 +18,20 @@ mod laying;
 mod play;
 mod preparing;
 mod shelf;
+#[cfg(test)]
+mod tests;
 
 pub use answer::LineAnswer;
 
-/// Reads all transcripts, runs them on live pools, and writes the outcome.
+/// Returns the output for a script of the core.
+fn replay(alloc: Global, script: &str) -> Result<Vec<u8>, Fault> {
+    let mut reader = script.as_bytes();
+    let mut written = Vec::new(alloc);
+    let _ = run_script(alloc, &mut reader, &mut written, &mut io::sink())?;
+    Ok(written)
+}
+
+/// Reads all transcripts, runs them, and writes the outcome.
 pub fn run<R: Runtime, I: Source, W: Sink>(
     rt: R,
     reader: &mut I,
@@ -33,11 +44,11 @@ pub fn run<R: Runtime, I: Source, W: Sink>(
     };
     let mut report = Report::new(alloc);
     for transcript in transcripts_of(alloc, text)?.iter() {
-        if transcript.is_run {
-            let written = laying::play(rt, transcript.script.as_str())?;
-            report.add(transcript, written.as_bytes())?;
-        } else {
-            report.pass();
+        let script = transcript.script.as_str();
+        match transcript.kind {
+            Kind::Core => report.add(transcript, replay(alloc, script)?.as_slice())?,
+            Kind::Live => report.add(transcript, laying::play(rt, script)?.as_bytes())?,
+            Kind::NotRun => report.pass(),
         }
     }
     report.write(alloc, writer)?;

@@ -4,7 +4,7 @@ use crate::answer::{LineAnswer, error_of, poll_of, refusal_of};
 use crate::asked::{Asked, facts_of};
 use crate::laying::LiveDriver;
 use crate::shelf::Shelf;
-use bb8::{DriverCalls, Moment, PoolParts, Runtime, SetClock, Turn};
+use bb8::{DriverCalls, Moment, PoolPermits, Runtime, SetClock, Turn};
 use bb8_runner::fault::Fault;
 use bb8_runner::grammar::{fields_of, number};
 use bb8_runner::text::output;
@@ -49,7 +49,7 @@ pub fn set_board(board: &Board, verb: &str, word: &str) -> Option<LineAnswer> {
 
 /// A running script, with all that it has under numbers.
 #[derive(Drop)]
-pub struct Play<A: Asked, R: Runtime, L: PoolParts> {
+pub struct Play<A: Asked, R: Runtime, L: PoolPermits> {
     asked: A,
     drivers: Shelf<LiveDriver<R, L>>,
     gets: Shelf<A::Get>,
@@ -59,7 +59,7 @@ pub struct Play<A: Asked, R: Runtime, L: PoolParts> {
     setup: Setup,
 }
 
-impl<A: Asked, R: Runtime, L: PoolParts> Play<A, R, L> {
+impl<A: Asked, R: Runtime, L: PoolPermits> Play<A, R, L> {
     pub fn new(
         asked: A,
         drivers: Shelf<LiveDriver<R, L>>,
@@ -97,7 +97,7 @@ impl<A: Asked, R: Runtime, L: PoolParts> Play<A, R, L> {
             ["leave", "building"] => self.asked.cancel_building().map(|_| LineAnswer::Done),
             [verb] => match self.counted(verb) {
                 None => self.by_handle(verb, 0),
-                told => told,
+                result => result,
             },
             [verb, word] => match set_board(&self.setup.board, verb, word) {
                 None => self.numbered(verb, number(word)?),

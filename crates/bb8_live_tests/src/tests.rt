@@ -1,20 +1,22 @@
-//! What the tests share; every setter and every error once.
+//! Helpers of the tests; every setter and every error once.
 ghost use Rattle.std.specs.Prelude.{◌≡◌, ◌<◌, ◌==◌};
-ghost use Rattle.bb8.specs.Parts.{IsBlankOf, unchecked_of};
+ghost use Rattle.bb8.specs.Permits.{IsBlankOf, unchecked_of};
 ghost use Rattle.futures.specs.declared.task.Poll.TheVariants.{Pending};
 
-mod bell;
+mod blocking;
 mod calls;
 mod clocks;
 mod guards;
 mod handles;
+mod runners;
 mod serving;
+mod signal;
 mod threads;
 mod unlocked;
 
 use bb8::{
     AddError, Builder, Config, ManageConnection, Memory, Moment, NopCustomizer, NopErrorSink, Pool,
-    PoolParts, QueueStrategy, RunError, Runtime, SetClock,
+    PoolPermits, QueueStrategy, RunError, Runtime, SetClock,
 };
 use bb8_trials::Refused;
 use futures::task::Poll;
@@ -36,7 +38,7 @@ type SlowPool<R, L> = Pool<SlowManager, NopErrorSink, NopCustomizer, SetClock, R
 
 /// A pool of numbers, its clock, and a task that polls.
 #[derive(Drop)]
-struct NumberTrial<R: Runtime, L: PoolParts> {
+struct NumberTrial<R: Runtime, L: PoolPermits> {
     pool: SlowPool<R, L>,
     clock: SetClock,
     task: MockTask,
@@ -51,7 +53,7 @@ enum Trial {
 }
 
 /// Runs a trial on a pool with the check off.
-fn tries<R: Runtime + Abort, L: PoolParts>(
+fn tries<R: Runtime + Abort, L: PoolPermits>(
     rt: R,
     blank: Blank,
     max_size: u32,

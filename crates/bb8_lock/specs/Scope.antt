@@ -1,13 +1,13 @@
 -- What gets, guards and handles do on a pool: the tables over the data under the pool's lock, while
 -- it is held, and over the pool's own manager, error sink and clock.
 use Rattle.std.specs.Prelude.{◌≡◌, ℕ, eqb, None, Option, Some, Result, Ok, Err, ⊤, Bool}
-use Rattle.bb8_lock.specs.Words.{MutexGuard, DebugOf, Poll, Ready, Pending, AddError, RunError, State, ManagerOf, SinkOf, CustomizerOf, ClockOf, settings_of, HomeOf, Taken, OutsideOf, Stage, Joining, Locked, Part, PartsOf, LockScope, Shared, GetPolls, Cancels}
+use Rattle.bb8_lock.specs.Words.{MutexGuard, DebugOf, Poll, Ready, Pending, AddError, RunError, State, ManagerOf, SinkOf, CustomizerOf, ClockOf, settings_of, HomeOf, Taken, OutsideOf, Stage, Joining, Locked, Permit, PermitsOf, LockScope, Shared, GetPolls, Cancels}
 use Rattle.std.specs.Sync.Mutex.{mutex_guard_value}
-use Rattle.bb8_lock.specs.declared.bell.Rings.{Rings}
-use Rattle.bb8_lock.specs.Bells.{get_bells, joined, silent}
-use Rattle.bb8_lock.specs.Chains.{AddsOutside, Answers, CancelsAndLeaves, Joins, HandleLeaves, Returns, ReturnsAndLeaves, Retires, Shows, TakesNow, Waits, Closes, Detaches, DetachesAndLeaves, TellsClosed}
+use Rattle.bb8_lock.specs.declared.signal.Signals.{Signals}
+use Rattle.bb8_lock.specs.Signals.{signals_of_step, joined, silent}
+use Rattle.bb8_lock.specs.Traces.{AddsOutside, Answers, CancelsAndLeaves, Joins, HandleLeaves, Returns, ReturnsAndLeaves, Retires, Shows, TakesNow, Waits, Closes, Detaches, DetachesAndLeaves, ReportsClosed}
 use Rattle.bb8_gets.specs.Steps.{StepsBy}
-use Rattle.bb8_lock.specs.declared.bell.Rests.{Ghosts as RestsOf}
+use Rattle.bb8_lock.specs.declared.signal.Rests.{Ghosts as RestsOf}
 use Rattle.bb8_lock.specs.declared.handle.Handle.{Handle}
 
 module _ {T : Type 0} where
@@ -29,29 +29,29 @@ module _ {T : Type 0} where
 module _ {S T : Type 0} where
   -- the scope shares this; the lock is free, and no signal is noted
   abbrev pub IsScopeOf : S → LockScope S T → Type 0
-  IsScopeOf shared x = (x.shared.now ≡ shared) × (x.held ≡ None) × (x.rings ≡ silent)
+  IsScopeOf shared x = (x.shared.now ≡ shared) × (x.held ≡ None) × (x.signals ≡ silent)
 
   -- A step leads from the held data, or else from whatever is under the lock, to the data held
   -- then. Its signals, which may depend on that, are added to the noted ones, and no others.
-  abbrev pub Leads : (T → T → Type 0) → (T → Rings) → LockScope S T → LockScope S T → Type 0
-  Leads Step its_bells x x' =
-      LeadsHeld (λ t t'. Step t t' × (x'.rings ≡ joined (its_bells t') x.rings)) x.held x'.held × (x'.shared ≡ x.shared)
+  abbrev pub Leads : (T → T → Type 0) → (T → Signals) → LockScope S T → LockScope S T → Type 0
+  Leads Step its_signals x x' =
+      LeadsHeld (λ t t'. Step t t' × (x'.signals ≡ joined (its_signals t') x.signals)) x.held x'.held × (x'.shared ≡ x.shared)
 
   -- the noted signals are notified; afterwards the lock is free, and no signal is noted
-  abbrev pub Frees : (S → Rings → Type 0) → LockScope S T → LockScope S T → Type 0
-  Frees Rung x x' = Rung x.shared.now x.rings × (x'.held ≡ None) × (x'.rings ≡ silent) × (x'.shared ≡ x.shared)
+  abbrev pub Frees : (S → Signals → Type 0) → LockScope S T → LockScope S T → Type 0
+  Frees Notified x x' = Notified x.shared.now x.signals × (x'.held ≡ None) × (x'.signals ≡ silent) × (x'.shared ≡ x.shared)
 
 -- What a pool's gets, guards and handles do, given what they share: on the pool's lock, with its
 -- own manager, error sink and clock.
-module _ {G L M S Z K R C E N V A : Type 0} {m : ManagerOf M C E N V} {d : DebugOf E} {s : SinkOf S E} {z : CustomizerOf Z C E A} {k : ClockOf K} {l : PartsOf L}
+module _ {G L M S Z K R C E N V A : Type 0} {m : ManagerOf M C E N V} {d : DebugOf E} {s : SinkOf S E} {z : CustomizerOf Z C E A} {k : ClockOf K} {l : PermitsOf L}
     (shared : Shared G L M S Z K R C E N V A m d s z k l) where
   -- the pool's lock with its user callbacks
   abbrev pub Scope : Type 0
   Scope = LockScope (Shared G L M S Z K R C E N V A m d s z k l) (Locked C L l)
 
   -- signals of the pool were notified; no relation says more
-  abbrev pub Rung : Shared G L M S Z K R C E N V A m d s z k l → Rings → Type 0
-  Rung _ _ = ⊤
+  abbrev pub Notified : Shared G L M S Z K R C E N V A m d s z k l → Signals → Type 0
+  Notified _ _ = ⊤
 
   -- `Does` is done on a fresh scope of the pool
   abbrev pub Own : (Scope → Scope → Type 0) → Type 0
@@ -60,16 +60,16 @@ module _ {G L M S Z K R C E N V A : Type 0} {m : ManagerOf M C E N V} {d : Debug
   -- The relations of the lock as a home. While it is held, each step starts where the one before
   -- ended. Once it was released, the next one starts at whatever is under it. A step's result
   -- follows from that very state, which keeps the limits.
-  abbrev pub gets : HomeOf Scope C (Part L) Handle
+  abbrev pub gets : HomeOf Scope C (Permit L) Handle
   gets = record {
-    releases = λ x x'. Frees Rung x x';
-    steps = λ x at s x'. Leads (λ t t'. StepsBy l.settings t.core at s t'.core) (λ t'. get_bells (eqb t'.core.handles 0) s) x x';
+    releases = λ x x'. Frees Notified x x';
+    steps = λ x at s x'. Leads (λ t t'. StepsBy l.settings t.core at s t'.core) (λ t'. signals_of_step (eqb t'.core.handles 0) s) x x';
   }
 
   -- the relations of the callbacks of its manager, error sink and clock
   abbrev pub calls : OutsideOf Scope C E V
   calls = record {
-    tells = λ x moment x'. k.tells x.shared.now.clock moment × (x' ≡ x);
+    reports = λ x moment x'. k.reports x.shared.now.clock moment × (x' ≡ x);
     checks = λ x c v c' x'. m.checks x.shared.now.manager c v c' × (x' ≡ x);
     check_answers = λ x c v moment a c' v' x'. m.check_answers x.shared.now.manager c v moment a c' v' × (x' ≡ x);
     ends_check = λ x _ x'. x' ≡ x;
@@ -83,41 +83,41 @@ module _ {G L M S Z K R C E N V A : Type 0} {m : ManagerOf M C E N V} {d : Debug
   rests = record { counts = λ x _ _ x'. x' ≡ x; sleeps = λ x _ _ _ x'. x' ≡ x }
 
   -- A poll of a get goes by the table.
-  abbrev pub OwnPolls : Stage C V (Part L) → Poll (Result (Taken C (Part L)) (RunError E)) → Stage C V (Part L) → Type 0
+  abbrev pub OwnPolls : Stage C V (Permit L) → Poll (Result (Taken C (Permit L)) (RunError E)) → Stage C V (Permit L) → Type 0
   OwnPolls stage r stage' = Own (λ x x'. GetPolls gets calls (settings_of shared.config).connection_timeout stage x (record { answer = r; stage = stage' }) x')
 
   -- the final result of the polls of such a get
-  abbrev pub OwnGives : Stage C V (Part L) → Result (Taken C (Part L)) (RunError E) → Type 0
+  abbrev pub OwnGives : Stage C V (Permit L) → Result (Taken C (Permit L)) (RunError E) → Type 0
   OwnGives stage x = Answers OwnPolls stage x
 
   -- A thread waits for a new get.
-  abbrev pub OwnWaits : ℕ → Result (Taken C (Part L)) (RunError E) → Type 0
+  abbrev pub OwnWaits : ℕ → Result (Taken C (Permit L)) (RunError E) → Type 0
   OwnWaits timeout result = Own (λ x x'. Waits gets calls rests timeout x result x')
 
   -- A connection is taken at once, or None.
-  abbrev pub OwnTakesNow : Result (Option (Taken C (Part L))) (RunError E) → Type 0
+  abbrev pub OwnTakesNow : Result (Option (Taken C (Permit L))) (RunError E) → Type 0
   OwnTakesNow result = Own (λ x x'. TakesNow gets calls (settings_of shared.config).connection_timeout x result x')
 
   -- A get is cancelled by the table; if it has its own handle, that leaves then.
-  abbrev pub OwnCancels : Stage C V (Part L) → Type 0
+  abbrev pub OwnCancels : Stage C V (Permit L) → Type 0
   OwnCancels stage = Own (Cancels gets calls stage)
 
-  abbrev pub OwnCancelsAndLeaves : Stage C V (Part L) → Type 0
+  abbrev pub OwnCancelsAndLeaves : Stage C V (Permit L) → Type 0
   OwnCancelsAndLeaves stage = Own (CancelsAndLeaves gets calls stage)
 
   -- A guard's connection is returned; if the guard has its own handle, that leaves then.
-  abbrev pub OwnReturns : Taken C (Part L) → Type 0
+  abbrev pub OwnReturns : Taken C (Permit L) → Type 0
   OwnReturns taken = Own (Returns gets calls taken)
 
-  abbrev pub OwnReturnsAndLeaves : Taken C (Part L) → Type 0
+  abbrev pub OwnReturnsAndLeaves : Taken C (Permit L) → Type 0
   OwnReturnsAndLeaves taken = Own (ReturnsAndLeaves gets calls taken)
 
   -- A guard's connection leaves the pool for good; if the guard has its own handle, that leaves
   -- then.
-  abbrev pub OwnDetaches : Taken C (Part L) → Type 0
+  abbrev pub OwnDetaches : Taken C (Permit L) → Type 0
   OwnDetaches taken = Own (Detaches gets calls taken)
 
-  abbrev pub OwnDetachesAndLeaves : Taken C (Part L) → Type 0
+  abbrev pub OwnDetachesAndLeaves : Taken C (Permit L) → Type 0
   OwnDetachesAndLeaves taken = Own (DetachesAndLeaves gets calls taken)
 
   -- one more handle is made or refused; and a handle leaves
@@ -132,7 +132,7 @@ module _ {G L M S Z K R C E N V A : Type 0} {m : ManagerOf M C E N V} {d : Debug
   OwnCloses = Own (Closes gets calls (settings_of shared.config).max_size)
 
   abbrev pub OwnTellsClosed : Bool → Type 0
-  OwnTellsClosed closed = Own (λ x x'. TellsClosed gets calls x closed x')
+  OwnTellsClosed closed = Own (λ x x'. ReportsClosed gets calls x closed x')
 
   -- a connection is added
   abbrev pub OwnAdds : C → Result (Unit {0}) (AddError C) → Type 0

@@ -19,12 +19,12 @@ pub use Rattle.bb8_types.specs.declared.api.managers.ManageConnection.{Ghosts as
 pub use Rattle.bb8_types.specs.Settings.{settings_of, Settings}
 pub use Rattle.bb8_core.specs.StepAnswers.{answer_of_add, answer_of_begin, answer_of_checked_err, answer_of_give_up, answer_of_leave, answer_of_look, answer_of_put_back, reason_of, GivesBack, Refuses, answer_of_claim}
 pub use Rattle.bb8_lock.specs.declared.locked.Locked.{Locked}
-pub use Rattle.bb8_lock.specs.declared.locked.Part.{Part}
-pub use Rattle.bb8_lock.specs.declared.locked.Parts.{Ghosts as PartsOf}
+pub use Rattle.bb8_lock.specs.declared.locked.Permit.{Permit}
+pub use Rattle.bb8_lock.specs.declared.locked.Permits.{Ghosts as PermitsOf}
 pub use Rattle.bb8_lock.specs.declared.scope.LockScope.{LockScope}
 pub use Rattle.bb8_lock.specs.declared.shared.Shared.{Shared}
 pub use Rattle.bb8_gets.specs.Homes.{StepsIn}
-pub use Rattle.bb8_gets.specs.Told.{in_core, answer_of_tried}
+pub use Rattle.bb8_gets.specs.Outcomes.{in_core, answer_of_tried}
 pub use Rattle.std.specs.Duration.{as_nanos}
 pub use Rattle.bb8_types.specs.declared.api.clocks.Clock.{Ghosts as ClockOf}
 pub use Rattle.bb8_types.specs.declared.api.sinks.ErrorSink.{Ghosts as SinkOf}

@@ -1,9 +1,9 @@
-//! What guards and handles do with a pool, over any home and any user callbacks.
+//! The calls of guards and handles, over any home and any user callbacks.
 //!
 //! The home is released after each critical section, before any other callback.
 ghost use Rattle.std.specs.Prelude.{◌≡◌};
 ghost use Rattle.std.specs.Duration.{as_nanos};
-ghost use Rattle.bb8_lock.specs.Chains.{AddsOutside, AfterReturn, CancelsAndLeaves, IsTold, Joins, HandleLeaves, Returns, ReturnsAndLeaves, Retires, RetiresInto, Shows, TakesNow, TriesOnce, Closes, ClosesInto, Detaches, DetachesAndLeaves, DropsEach, IsListFor, TellsClosed};
+ghost use Rattle.bb8_lock.specs.Traces.{AddsOutside, AfterReturn, CancelsAndLeaves, IsAddResult, Joins, HandleLeaves, Returns, ReturnsAndLeaves, Retires, RetiresInto, Shows, TakesNow, TriesOnce, Closes, ClosesInto, Detaches, DetachesAndLeaves, DropsEach, IsListFor, ReportsClosed};
 
 use bb8_core::api::{AddError, Moment, RunError, State};
 use bb8_core::internals::{AddAnswer, ClosedList, PutBackAnswer};
@@ -14,7 +14,7 @@ use std::time::Duration;
 
 /// Returns a guard's connection: asks whether it is broken, reads the clock, gives it to the home
 /// and releases the home. If the pool does not keep the connection, it is dropped then.
-pub fn give_back<C, V, P, E, X: GetHome<C, Part = P> + Outside<C, E, Checking = V>>(
+pub fn give_back<C, V, P, E, X: GetHome<C, Permit = P> + Outside<C, E, Checking = V>>(
     pool: &mut X,
     taken: Taken<C, P>,
 )
@@ -40,7 +40,7 @@ fn drop_closed<C, E, X: Outside<C, E>>(pool: &mut X, answer: Result<PutBackAnswe
 
 /// Adds a connection: asks whether it is broken, reads the clock, offers it to the home and
 /// releases the home.
-pub fn add<C, V, P, E, X: GetHome<C, Part = P> + Outside<C, E, Checking = V>>(
+pub fn add<C, V, P, E, X: GetHome<C, Permit = P> + Outside<C, E, Checking = V>>(
     pool: &mut X,
     mut conn: C,
 ) -> Result<(), AddError<C>>
@@ -50,13 +50,13 @@ pub fn add<C, V, P, E, X: GetHome<C, Part = P> + Outside<C, E, Checking = V>>(
     let at = pool.now();
     let answer = pool.add(at, conn, broken);
     pool.release();
-    told(answer)
+    outcome(answer)
 }
 
 /// Turns the result of an add into the caller's. A pool whose last handle left would have no
 /// capacity, but the caller has a handle.
-fn told<C>(answer: Result<AddAnswer<C>, C>) -> Result<(), AddError<C>>
-    ensures { IsTold answer result }
+fn outcome<C>(answer: Result<AddAnswer<C>, C>) -> Result<(), AddError<C>>
+    ensures { IsAddResult answer result }
 {
     match answer {
         Ok(AddAnswer::Added(_, _)) => Ok(()),
@@ -67,7 +67,7 @@ fn told<C>(answer: Result<AddAnswer<C>, C>) -> Result<(), AddError<C>>
 }
 
 /// Returns the home's statistics at a clock reading.
-pub fn state<C, V, P, E, X: GetHome<C, Part = P> + Outside<C, E, Checking = V>>(
+pub fn state<C, V, P, E, X: GetHome<C, Permit = P> + Outside<C, E, Checking = V>>(
     pool: &mut X,
 ) -> State
     ensures { Shows X.GetHome X.Outside pool.old result pool.new }
@@ -80,7 +80,7 @@ pub fn state<C, V, P, E, X: GetHome<C, Part = P> + Outside<C, E, Checking = V>>(
 
 /// Returns a connection at once, or None. If the home has none idle, no get begins. Otherwise one
 /// get tries once in the same critical section, and is cancelled if it has no result.
-pub fn take_now<C, V, P, E, X: GetHome<C, Part = P> + Outside<C, E, Checking = V>>(
+pub fn take_now<C, V, P, E, X: GetHome<C, Permit = P> + Outside<C, E, Checking = V>>(
     pool: &mut X,
     timeout: Duration,
 ) -> Result<Option<Taken<C, P>>, RunError<E>>
@@ -98,7 +98,7 @@ pub fn take_now<C, V, P, E, X: GetHome<C, Part = P> + Outside<C, E, Checking = V
 }
 
 /// Begins a get that tries once at this moment, and cancels it if it has no result.
-fn try_once<C, V, P, E, X: GetHome<C, Part = P> + Outside<C, E, Checking = V>>(
+fn try_once<C, V, P, E, X: GetHome<C, Permit = P> + Outside<C, E, Checking = V>>(
     pool: &mut X,
     moment: Moment,
     timeout: Duration,
@@ -118,7 +118,7 @@ fn try_once<C, V, P, E, X: GetHome<C, Part = P> + Outside<C, E, Checking = V>>(
 }
 
 /// Asks the home for one more handle at a clock reading.
-pub fn join<C, V, P, E, X: GetHome<C, Part = P> + Outside<C, E, Checking = V>>(
+pub fn join<C, V, P, E, X: GetHome<C, Permit = P> + Outside<C, E, Checking = V>>(
     pool: &mut X,
 ) -> Joining<X::Handle>
     ensures { Joins X.GetHome X.Outside pool.old result pool.new }
@@ -131,7 +131,7 @@ pub fn join<C, V, P, E, X: GetHome<C, Part = P> + Outside<C, E, Checking = V>>(
 
 /// Takes a handle away at a clock reading. Connections that the last one closes are dropped before
 /// the home is released.
-pub fn leave<C, V, P, E, X: GetHome<C, Part = P> + Outside<C, E, Checking = V>>(
+pub fn leave<C, V, P, E, X: GetHome<C, Permit = P> + Outside<C, E, Checking = V>>(
     pool: &mut X,
     handle: X::Handle,
 )
@@ -143,7 +143,7 @@ pub fn leave<C, V, P, E, X: GetHome<C, Part = P> + Outside<C, E, Checking = V>>(
 }
 
 /// Returns the connection of a guard with its own handle, and then takes the handle away.
-pub fn give_back_and_leave<C, V, P, E, X: GetHome<C, Part = P> + Outside<C, E, Checking = V>>(
+pub fn give_back_and_leave<C, V, P, E, X: GetHome<C, Permit = P> + Outside<C, E, Checking = V>>(
     pool: &mut X,
     taken: Taken<C, P>,
     handle: X::Handle,
@@ -155,7 +155,7 @@ pub fn give_back_and_leave<C, V, P, E, X: GetHome<C, Part = P> + Outside<C, E, C
 }
 
 /// Cancels a get with its own handle, releases the home, and then takes the handle away.
-pub fn cancel_and_leave<C, V, P, E, X: GetHome<C, Part = P> + Outside<C, E, Checking = V>>(
+pub fn cancel_and_leave<C, V, P, E, X: GetHome<C, Permit = P> + Outside<C, E, Checking = V>>(
     pool: &mut X,
     get: GetState<C, V, P>,
     handle: X::Handle,
@@ -170,7 +170,7 @@ pub fn cancel_and_leave<C, V, P, E, X: GetHome<C, Part = P> + Outside<C, E, Chec
 /// Retires all connections: makes a list for `size` connections, reads the clock, has the home
 /// retire them, and releases the home. Then the closed connections are dropped. If memory for the
 /// list is refused, the home drops them.
-pub fn retire<C: Drop, V, P, E, X: GetHome<C, Part = P> + Outside<C, E, Checking = V>>(
+pub fn retire<C: Drop, V, P, E, X: GetHome<C, Permit = P> + Outside<C, E, Checking = V>>(
     pool: &mut X,
     alloc: Global,
     size: u32,
@@ -182,7 +182,7 @@ pub fn retire<C: Drop, V, P, E, X: GetHome<C, Part = P> + Outside<C, E, Checking
 }
 
 /// Retires all connections, then drops those that the home put into the list.
-fn retire_into<C: Drop, V, P, E, X: GetHome<C, Part = P> + Outside<C, E, Checking = V>>(
+fn retire_into<C: Drop, V, P, E, X: GetHome<C, Permit = P> + Outside<C, E, Checking = V>>(
     pool: &mut X,
     mut retired: ClosedList<C>,
 )
@@ -196,7 +196,7 @@ fn retire_into<C: Drop, V, P, E, X: GetHome<C, Part = P> + Outside<C, E, Checkin
 
 /// Takes the connection of a guard out of the pool for good: reads the clock, ends its record in
 /// the home and releases the home. The connection is not asked whether it is broken.
-pub fn detach<C, V, P, E, X: GetHome<C, Part = P> + Outside<C, E, Checking = V>>(
+pub fn detach<C, V, P, E, X: GetHome<C, Permit = P> + Outside<C, E, Checking = V>>(
     pool: &mut X,
     taken: Taken<C, P>,
 ) -> C
@@ -206,17 +206,17 @@ pub fn detach<C, V, P, E, X: GetHome<C, Part = P> + Outside<C, E, Checking = V>>
     let Taken {
         key,
         connection,
-        part,
+        permit,
     } = taken;
     let at = pool.now();
-    let _ = pool.detach(at, key, part);
+    let _ = pool.detach(at, key, permit);
     pool.release();
     connection
 }
 
 /// Takes the connection of a guard with its own handle out of the pool for good, and then takes the
 /// handle away.
-pub fn detach_and_leave<C, V, P, E, X: GetHome<C, Part = P> + Outside<C, E, Checking = V>>(
+pub fn detach_and_leave<C, V, P, E, X: GetHome<C, Permit = P> + Outside<C, E, Checking = V>>(
     pool: &mut X,
     taken: Taken<C, P>,
     handle: X::Handle,
@@ -232,7 +232,7 @@ pub fn detach_and_leave<C, V, P, E, X: GetHome<C, Part = P> + Outside<C, E, Chec
 /// Closes the pool: makes a list for `size` connections, reads the clock, has the home end all
 /// handles, and releases the home. Then the closed connections are dropped. If memory for the list
 /// is refused, the home drops them.
-pub fn close<C: Drop, V, P, E, X: GetHome<C, Part = P> + Outside<C, E, Checking = V>>(
+pub fn close<C: Drop, V, P, E, X: GetHome<C, Permit = P> + Outside<C, E, Checking = V>>(
     pool: &mut X,
     alloc: Global,
     size: u32,
@@ -254,7 +254,7 @@ fn list_for<C: Drop>(alloc: Global, size: u32) -> ClosedList<C>
 }
 
 /// Closes the pool, then drops the connections that the home put into the list.
-fn close_into<C: Drop, V, P, E, X: GetHome<C, Part = P> + Outside<C, E, Checking = V>>(
+fn close_into<C: Drop, V, P, E, X: GetHome<C, Permit = P> + Outside<C, E, Checking = V>>(
     pool: &mut X,
     mut list: ClosedList<C>,
 )
@@ -276,10 +276,10 @@ fn drop_each<C: Drop, E, X: Outside<C, E>>(pool: &mut X, mut list: ClosedList<C>
 }
 
 /// Whether no handle of the home is alive, at a clock reading.
-pub fn is_closed<C, V, P, E, X: GetHome<C, Part = P> + Outside<C, E, Checking = V>>(
+pub fn is_closed<C, V, P, E, X: GetHome<C, Permit = P> + Outside<C, E, Checking = V>>(
     pool: &mut X,
 ) -> bool
-    ensures { TellsClosed X.GetHome X.Outside pool.old result pool.new }
+    ensures { ReportsClosed X.GetHome X.Outside pool.old result pool.new }
 {
     let at = pool.now();
     let seen = pool.look(at);

@@ -2,7 +2,7 @@
 ghost use Rattle.std.specs.Prelude.{◌≡◌, ℕ, ◌+◌, ◌<◌, ◌≤◌};
 ghost use Rattle.bb8_lock.specs.Gathered.{number_in};
 
-use crate::Part;
+use crate::Permit;
 use std::marker::Model;
 use std::sync::ledger::{Ledger, Share, Total};
 
@@ -29,11 +29,11 @@ impl<L: Ledger> Gathered<L> {
     }
 
     /// Adds a permit. There are never more than the total.
-    pub fn put(&mut self, part: Part<L>, total: &Total<L>)
+    pub fn put(&mut self, permit: Permit<L>, total: &Total<L>)
         ensures one_more { self.new ≡ self.old + 1 }
         ensures within { self.new ≤ total.now.amount }
     {
-        let Part { share: mut all } = part;
+        let Permit { share: mut all } = permit;
         if let Some(share) = self.share.take() {
             all.merge(share);
         }
@@ -42,12 +42,12 @@ impl<L: Ledger> Gathered<L> {
     }
 
     /// Takes a permit out.
-    pub fn take_one(&mut self) -> Part<L>
+    pub fn take_one(&mut self) -> Permit<L>
         requires { 0 < self.old }
         ensures { self.new + 1 ≡ self.old }
     {
         match &mut self.share {
-            Some(share) => Part {
+            Some(share) => Permit {
                 share: share.split_off(1, 1),
             },
             None => unreachable!(),

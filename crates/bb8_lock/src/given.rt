@@ -5,8 +5,8 @@ use std::fmt::Debug;
 use std::marker::PhantomData;
 
 /// The user's types of one pool: manager, sink, customizer, clock, runtime, and their own types.
-/// `These` is the only implementer.
-pub trait Given: Drop + 'static {
+/// `TypesOf` is the only implementer.
+pub trait PoolTypes: Drop + 'static {
     /// The manager.
     type Manager: ManageConnection<
         Connection = Self::Connection,
@@ -49,7 +49,7 @@ pub trait Given: Drop + 'static {
 
 /// A manager, an error sink, a customizer, a clock and a runtime, as one type. It has no values.
 #[derive(Drop)]
-pub struct These<M, S, Z, K, R> {
+pub struct TypesOf<M, S, Z, K, R> {
     which: PhantomData<(M, S, Z, K, R)>,
 }
 
@@ -59,7 +59,7 @@ impl<
     Z: CustomizeConnection<M::Connection, M::Error>,
     K: Clock,
     R: Locks,
-> Given for These<M, S, Z, K, R> {
+> PoolTypes for TypesOf<M, S, Z, K, R> {
     type Manager = M;
 
     type Sink = S;

@@ -7,7 +7,7 @@ pub struct Handle {
     pub(crate) _alive: (),
 }
 
-/// Tells drivers when to end. (A trait because of *trait-for-threads*.)
+/// Reports to drivers when to end. (A trait because of *trait-for-threads*.)
 pub trait Ends {
     // Whether no handle is alive.
     ghost over: { Self → Bool };

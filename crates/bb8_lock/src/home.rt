@@ -8,11 +8,11 @@ ghost use Rattle.bb8_core.specs.Unfit.{OrComesBack, Stepped};
 ghost use Rattle.bb8_core.specs.StepAnswers.{answer_of_add, answer_of_checked_err, answer_of_give_up, answer_of_put_back, reason_of, GivesBack, GivesBackHeld, GivesBackInvalid, Refuses};
 ghost use Rattle.bb8_gets.specs.Homes.{StepsIn};
 ghost use Rattle.bb8_gets.specs.Steps.{IsSorted, StartsBy, StepsBy};
-ghost use Rattle.bb8_gets.specs.Told.{in_core};
-ghost use Rattle.bb8_core.specs.Parts.{goes_out, out_of};
+ghost use Rattle.bb8_gets.specs.Outcomes.{in_core};
+ghost use Rattle.bb8_core.specs.StepBounds.{goes_out, out_of};
 
 use crate::handle::Handle;
-use crate::locked::{Locked, Part, Parts};
+use crate::locked::{Locked, Permit, Permits};
 use bb8_core::api::{Moment, State};
 use bb8_core::internals::{
     AddAnswer, AtOnce, CheckedErrAnswer, ClosedList, DetachAnswer, GetKey, GiveUpAnswer,
@@ -25,51 +25,54 @@ use std::sync::ledger::Share;
 /// Turns a try's result into one with a permit for its connection, if it has one. The state already
 /// counts the connection as checked out, within the size.
 #[inline(always)]
-fn hand_out<C: Drop, L: Parts>(
+fn hand_out<C: Drop, L: Permits>(
     core: &PoolInternals<C>,
     rest: &mut Share<L>,
-    told: TryAnswer<C>,
-) -> Tried<C, Part<L>>
+    outcome: TryAnswer<C>,
+) -> Tried<C, Permit<L>>
     requires parts { out_of core.now + rest.old.parts ≡
-        core.now.config.max_size + goes_out told }
+        core.now.config.max_size + goes_out outcome }
     requires amount { rest.old.amount ≡ rest.old.parts }
-    ensures told { in_core result ≡ told }
+    ensures outcome { in_core result ≡ outcome }
     ensures parts { out_of core.now + rest.new.parts ≡ core.now.config.max_size }
     ensures amount { rest.new.amount ≡ rest.new.parts }
 {
     core.limits();
-    match told {
+    match outcome {
         TryAnswer::Waiting(grant) => Tried::Waiting(grant),
         TryAnswer::Served(key, connection, grant) => {
-            let part = Part::cut(rest);
+            let permit = Permit::cut(rest);
             let taken = Taken {
                 key,
                 connection,
-                part,
+                permit,
             };
             Tried::Served(taken, grant)
         }
         TryAnswer::Taken(key, connection, grant) => {
-            let part = Part::cut(rest);
+            let permit = Permit::cut(rest);
             let taken = Taken {
                 key,
                 connection,
-                part,
+                permit,
             };
             Tried::Taken(taken, grant)
         }
     }
 }
 
-impl<C: Drop, L: Parts> Locked<C, L> {
+impl<C: Drop, L: Permits> Locked<C, L> {
     /// Begins a get that `serve_at_once` did not serve, and lets it try.
     #[inline(never)]
-    fn start_on(&mut self, at: Moment) -> Result<FirstTry<C, Part<L>>, Unfit>
+    fn start_on(&mut self, at: Moment) -> Result<FirstTry<C, Permit<L>>, Unfit>
         ensures { StartsBy (StepsIn L.settings) self.old.core at.0 result self.new.core }
     {
         let Locked { core, rest, .. } = self;
         match core.start(at) {
-            Ok(Started::Tried(get, told)) => Ok(FirstTry::Tried(get, hand_out(core, rest, told))),
+            Ok(Started::Tried(get, outcome)) => Ok(FirstTry::Tried(
+                get,
+                hand_out(core, rest, outcome),
+            )),
             Ok(Started::Memory) => Ok(FirstTry::Memory),
             Ok(Started::Exhausted) => Ok(FirstTry::Exhausted),
             Err(Unfit) => Err(Unfit),
@@ -79,8 +82,8 @@ impl<C: Drop, L: Parts> Locked<C, L> {
 
 /// Each step leads from the state under the lock to the next one. A connection is checked out with
 /// a permit and returned with it.
-impl<C: Drop, L: Parts> GetHome<C> for Locked<C, L> {
-    type Part = Part<L>;
+impl<C: Drop, L: Permits> GetHome<C> for Locked<C, L> {
+    type Permit = Permit<L>;
 
     type Handle = Handle;
 
@@ -98,7 +101,7 @@ impl<C: Drop, L: Parts> GetHome<C> for Locked<C, L> {
 
     /// Serves a get at once if connections are handed out unchecked and no memory is needed.
     #[inline(always)]
-    fn start(&mut self, at: Moment) -> Result<FirstTry<C, Part<L>>, Unfit> {
+    fn start(&mut self, at: Moment) -> Result<FirstTry<C, Permit<L>>, Unfit> {
         let Locked { core, rest, .. } = self;
         match core.serve_at_once(at) {
             Some(
@@ -113,21 +116,21 @@ impl<C: Drop, L: Parts> GetHome<C> for Locked<C, L> {
                     number: get,
                     place: 0,
                 };
-                let told = TryAnswer::Served(key, conn, grant);
-                Ok(FirstTry::Tried(get, hand_out(core, rest, told)))
+                let outcome = TryAnswer::Served(key, conn, grant);
+                Ok(FirstTry::Tried(get, hand_out(core, rest, outcome)))
             }
             None => {
-                // (a place of its own because of *value-in-memory*)
+                // (a local of its own because of *value-in-memory*)
                 let first = self.start_on(at);
                 first
             }
         }
     }
 
-    fn try_get(&mut self, at: Moment, get: GetKey) -> Result<Tried<C, Part<L>>, Unfit> {
+    fn try_get(&mut self, at: Moment, get: GetKey) -> Result<Tried<C, Permit<L>>, Unfit> {
         let Locked { core, rest, .. } = self;
         match core.try_get(at, get) {
-            Ok(told) => Ok(hand_out(core, rest, told)),
+            Ok(outcome) => Ok(hand_out(core, rest, outcome)),
             Err(Unfit) => Err(Unfit),
         }
     }
@@ -137,13 +140,13 @@ impl<C: Drop, L: Parts> GetHome<C> for Locked<C, L> {
         at: Moment,
         get: GetKey,
         key: Key,
-        part: Part<L>,
-    ) -> Result<Passed<Part<L>>, Unfit> {
+        permit: Permit<L>,
+    ) -> Result<Passed<Permit<L>>, Unfit> {
         let Locked { core, .. } = self;
         match core.checked_ok(at, get, key.place) {
-            Ok(answer) => Ok(Passed::of(answer, part)),
+            Ok(answer) => Ok(Passed::of(answer, permit)),
             Err(Unfit) => {
-                let Part { share } = part;
+                let Permit { share } = permit;
                 drop(share);
                 Err(Unfit)
             }
@@ -154,7 +157,7 @@ impl<C: Drop, L: Parts> GetHome<C> for Locked<C, L> {
         &mut self,
         at: Moment,
         get: GetKey,
-        returned: Returned<C, Part<L>>,
+        returned: Returned<C, Permit<L>>,
     ) -> Result<CheckedErrAnswer<C>, C>
         ensures step { Stepped (StepsIn L.settings) answer_of_checked_err self.old.core at.0
             (acts.CheckedErr get.number returned.broken) result self.new.core }
@@ -165,10 +168,10 @@ impl<C: Drop, L: Parts> GetHome<C> for Locked<C, L> {
         let Taken {
             key,
             connection,
-            part,
+            permit,
         } = taken;
         let answer = core.checked_err(at, get, connection, broken, key.place);
-        part.settle(rest, &answer);
+        permit.settle(rest, &answer);
         answer
     }
 
@@ -188,7 +191,7 @@ impl<C: Drop, L: Parts> GetHome<C> for Locked<C, L> {
         at: Moment,
         get: GetKey,
         reason: Reason,
-        returned: Returned<C, Part<L>>,
+        returned: Returned<C, Permit<L>>,
     ) -> Result<GiveUpAnswer<C>, C>
         ensures step { Stepped (StepsIn L.settings) answer_of_give_up self.old.core at.0
             (acts.GiveUp get.number (reason_of reason) (Some returned.taken.connection)
@@ -201,15 +204,15 @@ impl<C: Drop, L: Parts> GetHome<C> for Locked<C, L> {
         let Taken {
             key,
             connection,
-            part,
+            permit,
         } = taken;
         let answer = core.give_back(at, get, reason, connection, broken, key.place);
-        part.settle(rest, &answer);
+        permit.settle(rest, &answer);
         answer
     }
 
     #[inline(always)]
-    fn put_back(&mut self, at: Moment, back: Returned<C, Part<L>>) -> Result<PutBackAnswer<C>, C>
+    fn put_back(&mut self, at: Moment, back: Returned<C, Permit<L>>) -> Result<PutBackAnswer<C>, C>
         ensures step { Stepped (StepsIn L.settings) (answer_of_put_back back.taken.key.number)
             self.old.core at.0
             (acts.PutBack back.taken.key.number back.taken.connection back.broken)
@@ -221,10 +224,10 @@ impl<C: Drop, L: Parts> GetHome<C> for Locked<C, L> {
         let Taken {
             key,
             connection,
-            part,
+            permit,
         } = taken;
         let answer = core.put_back(at, key, connection, broken);
-        part.settle(rest, &answer);
+        permit.settle(rest, &answer);
         answer
     }
 
@@ -263,10 +266,10 @@ impl<C: Drop, L: Parts> GetHome<C> for Locked<C, L> {
         core.retire_into(at, closed)
     }
 
-    fn detach(&mut self, at: Moment, key: Key, part: Part<L>) -> Result<DetachAnswer, Unfit> {
+    fn detach(&mut self, at: Moment, key: Key, permit: Permit<L>) -> Result<DetachAnswer, Unfit> {
         let Locked { core, rest, .. } = self;
         let answer = core.detach(at, key);
-        part.settle(rest, &answer);
+        permit.settle(rest, &answer);
         answer
     }
 

@@ -1,8 +1,8 @@
 //! The data that a pool's lock protects.
 ghost use Rattle.std.specs.Prelude.{◌≡◌, ◌+◌, ◌^◌, ◌<◌, ◌≤◌, eqb, true, IfOk};
 ghost use Rattle.bb8_types.specs.Settings.{Settings, default_settings, is_lawful, settings_of};
-ghost use Rattle.bb8_lock.specs.Parts.{PoolBegins, IsBlankOf};
-ghost use Rattle.bb8_core.specs.Parts.{out_of, come_back};
+ghost use Rattle.bb8_lock.specs.Permits.{PoolBegins, IsBlankOf};
+ghost use Rattle.bb8_core.specs.StepBounds.{out_of, come_back};
 
 use crate::handle::{Ends, Handle};
 use bb8_core::api::{Config, Memory, Moment};
@@ -13,25 +13,25 @@ use std::sync::ledger::{Blank, Ledger, Share, Total};
 
 /// The permits of one pool, `max_size` of them, and the pool's settings. They tie the data under
 /// the lock to the data beside it: the permits of one pool have one value of settings.
-pub trait Parts: Ledger {
+pub trait Permits: Ledger {
     // The settings of the permits' pool.
     ghost settings: { Settings };
 }
 
-impl Parts for Brand {
+impl Permits for Brand {
     ghost settings = { default_settings };
 }
 
 /// The permits of a pool that threads share. Programs name `Brand`.
-pub trait PoolParts: Parts + Send + Sync {}
+pub trait PoolPermits: Permits + Send + Sync {}
 
-impl PoolParts for Brand {}
+impl PoolPermits for Brand {}
 
 /// The data under the lock: the state, which has the pool's settings, and the unused permits. Each
 /// checked-out connection has one permit with it, so unused permits plus checked-out connections
 /// always equal `max_size`.
 #[derive(Drop)]
-pub struct Locked<C, L: Parts> {
+pub struct Locked<C, L: Permits> {
     pub(crate) core: PoolInternals<C>,
     pub(crate) rest: Share<L>,
     ghost parts: { out_of core + rest.parts ≡ core.config.max_size },
@@ -40,13 +40,13 @@ pub struct Locked<C, L: Parts> {
 }
 
 /// A permit. It cannot be dropped implicitly: a critical section takes it back.
-pub struct Part<L: Ledger> {
+pub struct Permit<L: Ledger> {
     pub share: Share<L>,
     ghost one: { share.parts ≡ 1 },
     ghost counts: { share.amount ≡ 1 },
 }
 
-impl<L: Parts> Part<L> {
+impl<L: Permits> Permit<L> {
     /// Splits a permit off the unused ones, for a connection that is checked out.
     #[inline(always)]
     pub(crate) fn cut(rest: &mut Share<L>) -> Self
@@ -56,7 +56,7 @@ impl<L: Parts> Part<L> {
         ensures amount { rest.new.amount ≡ rest.new.parts }
     {
         let share = rest.split_off(1, 1);
-        Part { share }
+        Permit { share }
     }
 
     /// Returns the permit to the unused ones if its connection was taken back; drops it if that did
@@ -66,7 +66,7 @@ impl<L: Parts> Part<L> {
         ensures parts { rest.new.parts ≡ rest.old.parts + come_back answer.now }
         ensures amount { rest.new.amount ≡ rest.old.amount + come_back answer.now }
     {
-        let Part { share } = self;
+        let Permit { share } = self;
         match answer {
             Ok(_) => rest.merge(share),
             Err(_) => drop(share),
@@ -75,7 +75,7 @@ impl<L: Parts> Part<L> {
 }
 
 /// The parts of a new pool.
-pub struct NewPool<C, L: Parts> {
+pub struct NewPool<C, L: Permits> {
     /// The total number of permits.
     pub total: Total<L>,
     /// The data under its lock.
@@ -88,7 +88,7 @@ pub struct NewPool<C, L: Parts> {
 
 /// Makes the permits of a new pool, whose state has no connection checked out. The total is their
 /// number.
-fn lay_out_parts<C: Drop, L: Parts>(
+fn lay_out_permits<C: Drop, L: Permits>(
     core: PoolInternals<C>,
     blank: Blank,
     max_size: u32,
@@ -108,7 +108,7 @@ fn lay_out_parts<C: Drop, L: Parts>(
 /// Makes a new pool with one handle: its lock protects the state with the pool's settings, its
 /// first approvals, claimed or not, and its permits. Returns `Memory` if memory for an approval is
 /// refused.
-pub fn begin_pool<C: Drop, L: Parts>(
+pub fn begin_pool<C: Drop, L: Permits>(
     alloc: Global,
     config: Config,
     at: Moment,
@@ -127,7 +127,7 @@ pub fn begin_pool<C: Drop, L: Parts>(
     if grant.withheld > 0 {
         return Err(Memory);
     }
-    let (total, locked) = lay_out_parts(core, blank, config.max_size);
+    let (total, locked) = lay_out_permits(core, blank, config.max_size);
     Ok(NewPool {
         total,
         locked,
@@ -136,7 +136,7 @@ pub fn begin_pool<C: Drop, L: Parts>(
     })
 }
 
-impl<C: Drop, L: Parts> Ends for Locked<C, L> {
+impl<C: Drop, L: Permits> Ends for Locked<C, L> {
     ghost over = { λ h. eqb h.core.handles 0 };
 
     fn is_over(&self) -> bool {

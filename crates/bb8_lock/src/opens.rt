@@ -2,7 +2,7 @@
 ghost use Rattle.bb8_gets.specs.Homes.{StepsIn};
 ghost use Rattle.bb8_tasks.specs.Homes.{TaskStepsBy};
 
-use crate::locked::{Locked, Parts};
+use crate::locked::{Locked, Permits};
 use bb8_core::api::Moment;
 use bb8_core::internals::{
     ClaimAnswer, FailedAnswer, Grant, Key, Looked, OpenedAnswer, ReapAnswer, Unfit,
@@ -11,7 +11,7 @@ use bb8_gets::GetHome;
 use bb8_tasks::Home;
 
 /// Each step leads from the state under the lock to the next one.
-impl<C: Drop, L: Parts> Home<C> for Locked<C, L> {
+impl<C: Drop, L: Permits> Home<C> for Locked<C, L> {
     ghost steps = { λ h at s h'. TaskStepsBy (StepsIn L.settings) h.core at s h'.core };
 
     fn look(&mut self, at: Moment) -> Looked {

@@ -1,7 +1,7 @@
 //! The user callbacks of a pool, made outside its lock: manager, error sink, customizer and clock.
 ghost use Rattle.std.specs.Prelude.{◌≡◌};
 
-use crate::{Given, LockScope, Locked, Parts, Rests, Shared, Sleeper};
+use crate::{LockScope, Locked, Permits, PoolTypes, Rests, Shared, Sleeper};
 use bb8_core::api::{Clock, CustomizeConnection, ErrorSink, ManageConnection, Moment};
 use bb8_gets::Outside;
 use bb8_tasks::Opener;
@@ -11,11 +11,11 @@ use std::time::Duration;
 
 /// Each relation is the user's own. No callback changes the value that it is made on, nor whether
 /// the lock is held.
-impl<G: Given, L: Parts> Outside<G::Connection, G::Error>
+impl<G: PoolTypes, L: Permits> Outside<G::Connection, G::Error>
     for LockScope<'_, Shared<G, L>, Locked<G::Connection, L>> {
     type Checking = G::Checking;
 
-    ghost tells = { λ x moment x'. G.Clock.tells x.shared.now.clock moment × (x' ≡ x) };
+    ghost reports = { λ x moment x'. G.Clock.reports x.shared.now.clock moment × (x' ≡ x) };
 
     ghost checks = { λ x c v c' x'. G.Manager.checks x.shared.now.manager c v c' × (x' ≡ x) };
 
@@ -64,31 +64,31 @@ impl<G: Given, L: Parts> Outside<G::Connection, G::Error>
 }
 
 /// Sleeps on the signals of the pool's lock.
-impl<G: Given<Runtime: Wait>, L: Parts> Rests
+impl<G: PoolTypes<Runtime: Wait>, L: Permits> Rests
     for LockScope<'_, Shared<G, L>, Locked<G::Connection, L>> {
     ghost counts = { λ x _ _ x'. x' ≡ x };
 
     ghost sleeps = { λ x _ _ _ x'. x' ≡ x };
 
-    fn rings(&mut self, sleeper: Sleeper) -> u64 {
-        self.shared.locked.bell(sleeper).rings()
+    fn signals(&mut self, sleeper: Sleeper) -> u64 {
+        self.shared.locked.signal(sleeper).signals()
     }
 
-    fn sleep(&mut self, sleeper: Sleeper, rings: u64, most: Duration) {
+    fn sleep(&mut self, sleeper: Sleeper, signals: u64, most: Duration) {
         self.shared
             .locked
-            .bell(sleeper)
-            .sleep(&self.shared.rt, rings, most)
+            .signal(sleeper)
+            .sleep(&self.shared.rt, signals, most)
     }
 }
 
-impl<G: Given, L: Parts> Opener<G::Connection, G::Error>
+impl<G: PoolTypes, L: Permits> Opener<G::Connection, G::Error>
     for LockScope<'_, Shared<G, L>, Locked<G::Connection, L>> {
     type Connecting = G::Connecting;
 
     type Acquiring = G::Acquiring;
 
-    ghost tells = { λ x moment x'. G.Clock.tells x.shared.now.clock moment × (x' ≡ x) };
+    ghost reports = { λ x moment x'. G.Clock.reports x.shared.now.clock moment × (x' ≡ x) };
 
     ghost sinks = { λ x e x'. G.Sink.sinks x.shared.now.error_sink e × (x' ≡ x) };
 

@@ -1,14 +1,14 @@
 //! A pool's lock as the home of gets, guards, handles, connection tasks, the driver and the reaper.
 ghost use Rattle.std.specs.Prelude.{◌≡◌, None, ⊤};
 ghost use Rattle.bb8_gets.specs.Steps.{Fails, GivesBack, PutsBack};
-ghost use Rattle.bb8_lock.specs.Bells.{get_bells};
+ghost use Rattle.bb8_lock.specs.Signals.{signals_of_step};
 ghost use Rattle.bb8_lock.specs.Scope.{IsScopeOf, Leads, Frees, StartsAt};
 ghost use Rattle.std.specs.Sync.Mutex.{mutex_guard_value};
 
-use crate::bell::{Locking, Rings};
 use crate::handle::Ends;
 use crate::locks::Locks;
-use crate::{Given, Locked, Parts, Shared};
+use crate::signal::{Locking, Signals};
+use crate::{Locked, Permits, PoolTypes, Shared};
 use bb8_core::api::{Moment, State};
 use bb8_core::internals::{
     AddAnswer, CheckedErrAnswer, ClaimAnswer, ClosedList, DetachAnswer, FailedAnswer, GetKey,
@@ -24,7 +24,7 @@ use std::sync::MutexGuard;
 pub struct LockScope<'a, S: Locking<T>, T> {
     pub(crate) shared: &'a S,
     held: Option<MutexGuard<'a, T>>,
-    rings: Rings,
+    signals: Signals,
 }
 
 /// Opens a lock scope. (A trait because of *trait-for-threads*.)
@@ -33,8 +33,8 @@ pub trait OpensScope<S: Locking<T>, T> {
     fn scope(&self) -> LockScope<'_, S, T>;
 }
 
-impl<G: Given, L: Parts> Locking<Locked<G::Connection, L>> for Shared<G, L> {
-    ghost rung = { λ _ _. ⊤ };
+impl<G: PoolTypes, L: Permits> Locking<Locked<G::Connection, L>> for Shared<G, L> {
+    ghost notified = { λ _ _. ⊤ };
 
     #[inline(always)]
     fn take(&self) -> MutexGuard<'_, Locked<G::Connection, L>> {
@@ -42,8 +42,8 @@ impl<G: Given, L: Parts> Locking<Locked<G::Connection, L>> for Shared<G, L> {
     }
 
     #[inline(always)]
-    fn ring(&self, rings: Rings) {
-        self.locked.ring(rings)
+    fn notify(&self, signals: Signals) {
+        self.locked.notify(signals)
     }
 }
 
@@ -55,7 +55,7 @@ impl<S: Locking<T>, T> OpensScope<S, T> for S {
         LockScope {
             shared: self,
             held: None,
-            rings: Rings::none(),
+            signals: Signals::none(),
         }
     }
 }
@@ -63,21 +63,21 @@ impl<S: Locking<T>, T> OpensScope<S, T> for S {
 impl<S: Locking<T>, T> Drop for LockScope<'_, S, T> {
     #[inline(always)]
     fn drop(self)
-        ensures { S.rung self.entry.shared.now self.entry.rings }
+        ensures { S.notified self.entry.shared.now self.entry.signals }
     {
         let LockScope {
             shared,
             held,
-            rings,
+            signals,
         } = self;
         drop(held);
-        shared.ring(rings);
+        shared.notify(signals);
     }
 }
 
 /// A scope is closed by dropping it.
 impl<S: Locking<T>, T> LetGo for LockScope<'_, S, T> {
-    ghost goes = { λ x. S.rung x.shared.now x.rings };
+    ghost goes = { λ x. S.notified x.shared.now x.signals };
 
     #[inline(always)]
     fn go(self) {
@@ -101,7 +101,7 @@ impl<'a, S: Locking<T>, T> Hold for LockScope<'a, S, T> {
         ensures start { StartsAt self.old.held (mutex_guard_value result) }
         ensures free { self.new.held ≡ None }
         ensures same { self.new.shared ≡ self.old.shared }
-        ensures noted { self.new.rings ≡ self.old.rings }
+        ensures noted { self.new.signals ≡ self.old.signals }
     {
         match self.held.take() {
             Some(guard) => guard,
@@ -110,48 +110,51 @@ impl<'a, S: Locking<T>, T> Hold for LockScope<'a, S, T> {
     }
 }
 
+// Makes a step of what the lock protects, and keeps the lock held.
+macro_rules! step {
+    ($self:ident, $answer:ident = $step:ident($($arg:expr),*)) => {
+        let mut guard = $self.hold();
+        let $answer = guard.$step($($arg),*);
+        $self.held = Some(guard);
+    };
+}
+
 impl<C, S: Locking<T>, T: GetHome<C> + Ends> GetHome<C> for LockScope<'_, S, T> {
-    type Part = T::Part;
+    type Permit = T::Permit;
 
     type Handle = T::Handle;
 
-    ghost releases = { λ x x'. Frees S.rung x x' };
+    ghost releases = { λ x x'. Frees S.notified x x' };
 
-    ghost steps = { λ x at s x'. Leads (λ t t'. T.steps t at s t') (λ t'. get_bells (T.over t') s) x x' };
+    ghost steps = { λ x at s x'. Leads (λ t t'. T.steps t at s t') (λ t'. signals_of_step (T.over t') s) x x' };
 
     #[inline(always)]
     fn release(&mut self) {
         self.held = None;
-        self.shared.ring(self.rings);
-        self.rings = Rings::none();
+        self.shared.notify(self.signals);
+        self.signals = Signals::none();
     }
 
     #[inline(always)]
     fn look(&mut self, at: Moment) -> Looked {
-        let mut guard = self.hold();
-        let seen = guard.look(at);
-        self.held = Some(guard);
+        step!(self, seen = look(at));
         seen
     }
 
     #[inline(always)]
-    fn start(&mut self, at: Moment) -> Result<FirstTry<C, T::Part>, Unfit> {
-        let mut guard = self.hold();
-        let answer = guard.start(at);
-        self.held = Some(guard);
+    fn start(&mut self, at: Moment) -> Result<FirstTry<C, T::Permit>, Unfit> {
+        step!(self, answer = start(at));
         if let Ok(FirstTry::Tried(_, tried)) = &answer {
-            self.rings.note_try(tried);
+            self.signals.note_try(tried);
         }
         answer
     }
 
     #[inline(always)]
-    fn try_get(&mut self, at: Moment, get: GetKey) -> Result<Tried<C, T::Part>, Unfit> {
-        let mut guard = self.hold();
-        let answer = guard.try_get(at, get);
-        self.held = Some(guard);
+    fn try_get(&mut self, at: Moment, get: GetKey) -> Result<Tried<C, T::Permit>, Unfit> {
+        step!(self, answer = try_get(at, get));
         if let Ok(tried) = &answer {
-            self.rings.note_try(tried);
+            self.signals.note_try(tried);
         }
         answer
     }
@@ -162,11 +165,9 @@ impl<C, S: Locking<T>, T: GetHome<C> + Ends> GetHome<C> for LockScope<'_, S, T> 
         at: Moment,
         get: GetKey,
         key: Key,
-        part: T::Part,
-    ) -> Result<Passed<T::Part>, Unfit> {
-        let mut guard = self.hold();
-        let answer = guard.checked_ok(at, get, key, part);
-        self.held = Some(guard);
+        permit: T::Permit,
+    ) -> Result<Passed<T::Permit>, Unfit> {
+        step!(self, answer = checked_ok(at, get, key, permit));
         answer
     }
 
@@ -174,17 +175,15 @@ impl<C, S: Locking<T>, T: GetHome<C> + Ends> GetHome<C> for LockScope<'_, S, T> 
         &mut self,
         at: Moment,
         get: GetKey,
-        returned: Returned<C, T::Part>,
+        returned: Returned<C, T::Permit>,
     ) -> Result<CheckedErrAnswer<C>, C>
         ensures { Leads (λ t t'. T.steps t at (Fails get returned result) t')
-            (λ t'. get_bells {H = T.Handle} (T.over t') (Fails get returned result))
+            (λ t'. signals_of_step {H = T.Handle} (T.over t') (Fails get returned result))
             self.old self.new }
     {
-        let mut guard = self.hold();
-        let answer = guard.checked_err(at, get, returned);
-        self.held = Some(guard);
-        if let Ok(CheckedErrAnswer::Closed(_, _, grant, told)) = &answer {
-            self.rings.note(*told, grant.count);
+        step!(self, answer = checked_err(at, get, returned));
+        if let Ok(CheckedErrAnswer::Closed(_, _, grant, outcome)) = &answer {
+            self.signals.note(*outcome, grant.count);
         }
         answer
     }
@@ -195,10 +194,8 @@ impl<C, S: Locking<T>, T: GetHome<C> + Ends> GetHome<C> for LockScope<'_, S, T> 
         get: GetKey,
         reason: Reason,
     ) -> Result<GiveUpAnswer<C>, Unfit> {
-        let mut guard = self.hold();
-        let answer = guard.give_up(at, get, reason);
-        self.held = Some(guard);
-        self.rings.note_give_up(&answer);
+        step!(self, answer = give_up(at, get, reason));
+        self.signals.note_give_up(&answer);
         answer
     }
 
@@ -207,16 +204,15 @@ impl<C, S: Locking<T>, T: GetHome<C> + Ends> GetHome<C> for LockScope<'_, S, T> 
         at: Moment,
         get: GetKey,
         reason: Reason,
-        returned: Returned<C, T::Part>,
+        returned: Returned<C, T::Permit>,
     ) -> Result<GiveUpAnswer<C>, C>
         ensures { Leads (λ t t'. T.steps t at (GivesBack get reason returned result) t')
-            (λ t'. get_bells {H = T.Handle} (T.over t') (GivesBack get reason returned result))
+            (λ t'. signals_of_step {H = T.Handle} (T.over t')
+            (GivesBack get reason returned result))
             self.old self.new }
     {
-        let mut guard = self.hold();
-        let answer = guard.give_back(at, get, reason, returned);
-        self.held = Some(guard);
-        self.rings.note_give_up(&answer);
+        step!(self, answer = give_back(at, get, reason, returned));
+        self.signals.note_give_up(&answer);
         answer
     }
 
@@ -224,71 +220,61 @@ impl<C, S: Locking<T>, T: GetHome<C> + Ends> GetHome<C> for LockScope<'_, S, T> 
     fn put_back(
         &mut self,
         at: Moment,
-        returned: Returned<C, T::Part>,
+        returned: Returned<C, T::Permit>,
     ) -> Result<PutBackAnswer<C>, C>
         ensures { Leads (λ t t'. T.steps t at (PutsBack returned result) t')
-            (λ t'. get_bells {H = T.Handle} (T.over t') (PutsBack returned result))
+            (λ t'. signals_of_step {H = T.Handle} (T.over t') (PutsBack returned result))
             self.old self.new }
     {
-        let mut guard = self.hold();
-        let answer = guard.put_back(at, returned);
-        self.held = Some(guard);
+        step!(self, answer = put_back(at, returned));
         match &answer {
-            Ok(PutBackAnswer::Kept(told)) => self.rings.note(*told, 0),
-            Ok(PutBackAnswer::Closed(_, grant, told)) => self.rings.note(*told, grant.count),
+            Ok(PutBackAnswer::Kept(outcome)) => self.signals.note(*outcome, 0),
+            Ok(PutBackAnswer::Closed(_, grant, outcome)) => self
+                .signals
+                .note(*outcome, grant.count),
             Err(_) => {}
         }
         answer
     }
 
     fn add(&mut self, at: Moment, conn: C, broken: bool) -> Result<AddAnswer<C>, C> {
-        let mut guard = self.hold();
-        let answer = guard.add(at, conn, broken);
-        self.held = Some(guard);
-        if let Ok(AddAnswer::Added(_, told)) = &answer {
-            self.rings.note(*told, 0);
+        step!(self, answer = add(at, conn, broken));
+        if let Ok(AddAnswer::Added(_, outcome)) = &answer {
+            self.signals.note(*outcome, 0);
         }
         answer
     }
 
     fn state(&mut self, at: Moment) -> State {
-        let mut guard = self.hold();
-        let state = guard.state(at);
-        self.held = Some(guard);
+        step!(self, state = state(at));
         state
     }
 
     fn join(&mut self, at: Moment) -> Joining<T::Handle> {
-        let mut guard = self.hold();
-        let answer = guard.join(at);
-        self.held = Some(guard);
+        step!(self, answer = join(at));
         answer
     }
 
     fn leave(&mut self, at: Moment, handle: T::Handle) -> Result<LeaveAnswer, Unfit> {
         let mut guard = self.hold();
         let answer = guard.leave(at, handle);
-        self.rings.drivers = guard.is_over() | self.rings.drivers;
+        self.signals.drivers = guard.is_over() | self.signals.drivers;
         self.held = Some(guard);
         answer
     }
 
     fn retire(&mut self, at: Moment, closed: &mut ClosedList<C>) -> ReapAnswer {
-        let mut guard = self.hold();
-        let answer = guard.retire(at, closed);
-        self.held = Some(guard);
+        step!(self, answer = retire(at, closed));
         if let ReapAnswer::Reaped { grant, .. } = &answer {
-            self.rings.note(None, grant.count);
+            self.signals.note(None, grant.count);
         }
         answer
     }
 
-    fn detach(&mut self, at: Moment, key: Key, part: T::Part) -> Result<DetachAnswer, Unfit> {
-        let mut guard = self.hold();
-        let answer = guard.detach(at, key, part);
-        self.held = Some(guard);
-        if let Ok(DetachAnswer::Detached(grant, told)) = &answer {
-            self.rings.note(*told, grant.count);
+    fn detach(&mut self, at: Moment, key: Key, permit: T::Permit) -> Result<DetachAnswer, Unfit> {
+        step!(self, answer = detach(at, key, permit));
+        if let Ok(DetachAnswer::Detached(grant, outcome)) = &answer {
+            self.signals.note(*outcome, grant.count);
         }
         answer
     }
@@ -296,7 +282,7 @@ impl<C, S: Locking<T>, T: GetHome<C> + Ends> GetHome<C> for LockScope<'_, S, T> 
     fn close(&mut self, at: Moment, closed: &mut ClosedList<C>) -> Result<LeaveAnswer, Unfit> {
         let mut guard = self.hold();
         let answer = guard.close(at, closed);
-        self.rings.note_over(guard.is_over());
+        self.signals.note_over(guard.is_over());
         self.held = Some(guard);
         answer
     }
@@ -306,7 +292,7 @@ impl<C, S: Locking<T>, T: GetHome<C> + Ends> GetHome<C> for LockScope<'_, S, T> 
 impl<C, S: Locking<T>, T: Home<C>> Home<C> for LockScope<'_, S, T> {
     ghost use Rattle.bb8_lock.specs.Opening.{Visits};
 
-    ghost steps = { λ x at s x'. Visits S.rung (λ t t'. T.steps t at s t') s x x' };
+    ghost steps = { λ x at s x'. Visits S.notified (λ t t'. T.steps t at s t') s x x' };
 
     fn look(&mut self, at: Moment) -> Looked {
         let mut guard = self.hold();
@@ -317,11 +303,11 @@ impl<C, S: Locking<T>, T: Home<C>> Home<C> for LockScope<'_, S, T> {
         let mut guard = self.hold();
         let answer = guard.opened(at, approval, connection);
         drop(guard);
-        let rings = match &answer {
-            Ok(OpenedAnswer::Entered(told)) => Rings::of(*told, 0),
-            Ok(OpenedAnswer::Late(_)) | Err(_) => Rings::none(),
+        let signals = match &answer {
+            Ok(OpenedAnswer::Entered(outcome)) => Signals::of(*outcome, 0),
+            Ok(OpenedAnswer::Late(_)) | Err(_) => Signals::none(),
         };
-        self.shared.ring(rings);
+        self.shared.notify(signals);
         answer
     }
 
@@ -344,7 +330,7 @@ impl<C, S: Locking<T>, T: Home<C>> Home<C> for LockScope<'_, S, T> {
         let mut guard = self.hold();
         let grant = guard.ask(at);
         drop(guard);
-        self.shared.ring(Rings::of(None, grant.count));
+        self.shared.notify(Signals::of(None, grant.count));
         grant
     }
 }

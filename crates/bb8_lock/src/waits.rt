@@ -1,8 +1,8 @@
 //! Blocking: a thread that waits for a connection of a pool.
 ghost use Rattle.std.specs.Duration.{as_nanos};
-ghost use Rattle.bb8_lock.specs.Chains.{Waits};
+ghost use Rattle.bb8_lock.specs.Traces.{Waits};
 
-use crate::bell::{Rests, Sleeper};
+use crate::signal::{Rests, Sleeper};
 use bb8_core::api::RunError;
 use bb8_gets::{GetHome, GetState, Outside, Taken};
 use futures::task::Poll;
@@ -12,7 +12,7 @@ use std::time::Duration;
 /// Polls a get with this timeout until it resolves. Between two polls the thread sleeps until the
 /// gets' signal is notified, and no longer than the get may rest. Notifications are counted before
 /// the poll, so that none between the poll and the sleep is lost.
-pub fn wait<C, V, P, E, X: GetHome<C, Part = P> + Outside<C, E, Checking = V> + Rests, R: Wait>(
+pub fn wait<C, V, P, E, X: GetHome<C, Permit = P> + Outside<C, E, Checking = V> + Rests, R: Wait>(
     pool: &mut X,
     rt: &R,
     timeout: Duration,
@@ -21,7 +21,7 @@ pub fn wait<C, V, P, E, X: GetHome<C, Part = P> + Outside<C, E, Checking = V> + 
 {
     let mut get = GetState::new();
     for _ in rt.forever() {
-        let rings = pool.rings(Sleeper::Get);
+        let signals = pool.signals(Sleeper::Get);
         match get.poll_step(pool, timeout) {
             Poll::Ready(answer) => {
                 get.cancel_step(pool);
@@ -30,7 +30,7 @@ pub fn wait<C, V, P, E, X: GetHome<C, Part = P> + Outside<C, E, Checking = V> + 
             Poll::Pending => {
                 pool.release();
                 let now = pool.now();
-                pool.sleep(Sleeper::Get, rings, get.rest(now));
+                pool.sleep(Sleeper::Get, signals, get.rest(now));
             }
         }
     }

@@ -1,5 +1,5 @@
-//! Tests of live pools, which use public items only: services, drivers, and user callbacks whose
-//! results change at every call.
+//! Tests of pools, which use public items only: services, drivers, user callbacks whose results
+//! change at every call, and memory that is refused.
 #![tactic(auto)]
 
 #[cfg(test)]

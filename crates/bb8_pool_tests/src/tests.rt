@@ -1,9 +1,10 @@
-//! What the tests share.
+//! Helpers of the tests.
 
 mod closing;
 mod drivers;
 mod outages;
 mod polls;
+mod refusals;
 mod resting;
 mod serving;
 mod waiting;

@@ -9,3 +9,4 @@ pub mod Bytes
 pub mod Words
 pub mod Configured
 pub mod Printed
+pub mod Messages

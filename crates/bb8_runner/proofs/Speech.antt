@@ -14,7 +14,7 @@ pub use Rattle.std.specs.Str.{bytes_eq, IsUtf8, IsAscii}
 pub use Rattle.bb8_types.specs.Figures.{figures_of}
 pub use Rattle.bb8_types.specs.declared.reasons.Reason.TheVariants.{TimedOut, Cancelled}
 pub use Rattle.bb8_core.specs.declared.replay.events.Act.{Act}
-pub use Rattle.bb8_core.specs.declared.replay.events.Act.TheVariants.{Fill, Ask, Failed, Leave, Close, Reap, Retire, Add, Opened, Look, Claim, State, CheckedOk, Join, Try, PutBack, Detach, GiveUp, Begin, CheckedErr}
+pub use Rattle.bb8_core.specs.declared.replay.events.Act.TheVariants.{Fill, Ask, Failed, Leave, Close, Reap, Retire, Add, Opened, Look, Claim, State, CheckedOk, Join, Try, PutBack, Detach, Evict, GiveUp, Begin, CheckedErr}
 pub use Rattle.bb8_core.specs.declared.replay.events.Event.{Event}
 pub use Rattle.bb8_runner.specs.Grammar.{◌>>=◌, fields_of, event_of, numbered_act, worded_act, broken_act, plain_act, number_of}
 pub use Rattle.bb8_runner.specs.Script.{IsFirstNoEvent, Spells}

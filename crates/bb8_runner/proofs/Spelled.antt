@@ -1,5 +1,5 @@
 -- An event is read from the fields that spell it, and from no others.
-use Rattle.bb8_runner.proofs.Speech.{◌≡◌, ℕ, ◌^◌, ◌<◌, Bool, true, false, cond, ◌&&◌, List, [], ◌∷◌, get_or, Option, Some, None, unwrap_or, option_map, refl, sym, ap, subst, ◌∙◌, arith, codes, decimal, bytes_eq, bytes_eq-Decides, Act, Begin, Try, CheckedOk, CheckedErr, GiveUp, PutBack, Detach, Fill, Ask, Claim, Opened, Failed, Add, Reap, Retire, State, Join, Leave, Close, Look, TimedOut, Cancelled, Event, ◌>>=◌, plain_act, worded_act, numbered_act, broken_act, verb_of, args_of, FitsAct, SpellsEvent, number_of}
+use Rattle.bb8_runner.proofs.Speech.{◌≡◌, ℕ, ◌^◌, ◌<◌, Bool, true, false, cond, ◌&&◌, List, [], ◌∷◌, get_or, Option, Some, None, unwrap_or, option_map, refl, sym, ap, subst, ◌∙◌, arith, codes, decimal, bytes_eq, bytes_eq-Decides, Act, Begin, Try, CheckedOk, CheckedErr, GiveUp, PutBack, Detach, Evict, Fill, Ask, Claim, Opened, Failed, Add, Reap, Retire, State, Join, Leave, Close, Look, TimedOut, Cancelled, Event, ◌>>=◌, plain_act, worded_act, numbered_act, broken_act, verb_of, args_of, FitsAct, SpellsEvent, number_of}
 use Rattle.bb8_runner.specs.Grammar.{act_of, event_of_fields}
 use Rattle.bb8_runner.proofs.Choices.{both, never, pick, step}
 use Rattle.bb8_runner.proofs.Numbers.{number_is, first_is_digit, number_read, number_spelled}
@@ -17,6 +17,7 @@ act_read (GiveUp n TimedOut false) h = ap (λ o. unwrap_or (option_map (numbered
 act_read (GiveUp n Cancelled false) h = ap (λ o. unwrap_or (option_map (numbered_act (codes "cancel")) o) (worded_act (codes "cancel") (decimal n))) (number_read 64 n h h)
 act_read (PutBack n false) h = ap (λ o. unwrap_or (option_map (numbered_act (codes "return")) o) (worded_act (codes "return") (decimal n))) (number_read 64 n h h)
 act_read (Detach n) h = ap (λ o. unwrap_or (option_map (numbered_act (codes "detach")) o) (worded_act (codes "detach") (decimal n))) (number_read 64 n h h)
+act_read (Evict n) h = ap (λ o. unwrap_or (option_map (numbered_act (codes "evict")) o) (worded_act (codes "evict") (decimal n))) (number_read 64 n h h)
 act_read (Opened n) h = ap (λ o. unwrap_or (option_map (numbered_act (codes "open")) o) (worded_act (codes "open") (decimal n))) (number_read 64 n h h)
 act_read (Failed n) h = ap (λ o. unwrap_or (option_map (numbered_act (codes "fail")) o) (worded_act (codes "fail") (decimal n))) (number_read 64 n h h)
 act_read (CheckedErr n true) h = ap (λ o. o >>= broken_act (codes "err")) (number_read 64 n h h)
@@ -63,9 +64,10 @@ numbered_spelled verb arg n a small d =
     step verb (codes "cancel") (GiveUp n Cancelled false) _ a P (λ v. (v, s, small)) (
     step verb (codes "return") (PutBack n false) _ a P (λ v. (v, s, small)) (
     step verb (codes "detach") (Detach n) _ a P (λ v. (v, s, small)) (
+    step verb (codes "evict") (Evict n) _ a P (λ v. (v, s, small)) (
     step verb (codes "open") (Opened n) _ a P (λ v. (v, s, small)) (
     step verb (codes "fail") (Failed n) _ a P (λ v. (v, s, small)) (
-    λ w. absurd (never a w))))))))))
+    λ w. absurd (never a w)))))))))))
 
 broken_spelled : (verb arg word : List ℕ) (n : ℕ) (a : Act) → n < 2 ^ 64 → arg ≡ decimal n → word ≡ codes "broken" → broken_act verb n ≡ Some a → SpellsAct verb (arg ∷ word ∷ []) a
 broken_spelled verb arg word n a small d b =

@@ -1,5 +1,5 @@
 -- The fields of good lines hold no space: a line of them is text, and is cut just between them.
-use Rattle.bb8_runner.proofs.Speech.{◌≡◌, ℕ, ◌<◌, Bool, true, false, eqb, List, [], ◌∷◌, Option, Some, None, refl, sym, ap, subst, ◌∙◌, arith, codes, decimal, All, join_with_byte, IsAscii, IsUtf8, Decides-eqb, All-weaker, Act, Try, CheckedOk, CheckedErr, GiveUp, PutBack, Detach, Fill, Opened, Failed, Add, TimedOut, Event, fields_of, event_of, verb_of, args_of, flag, event_fields, event_line, FitsEvent}
+use Rattle.bb8_runner.proofs.Speech.{◌≡◌, ℕ, ◌<◌, Bool, true, false, eqb, List, [], ◌∷◌, Option, Some, None, refl, sym, ap, subst, ◌∙◌, arith, codes, decimal, All, join_with_byte, IsAscii, IsUtf8, Decides-eqb, All-weaker, Act, Try, CheckedOk, CheckedErr, GiveUp, PutBack, Detach, Evict, Fill, Opened, Failed, Add, TimedOut, Event, fields_of, event_of, verb_of, args_of, flag, event_fields, event_line, FitsEvent}
 use Rattle.std.proofs.lemmas.List.Splits.{join_with_byte-slice_split, slice_split_at, slice_split_none}
 use Rattle.std.proofs.lemmas.Str.{IsUtf8-from_ascii, IsAscii-append}
 use Rattle.std.proofs.lemmas.Str.Ascii.{IsAscii-cons, IsAscii-nil, IsAscii-from_all}
@@ -53,6 +53,7 @@ args_words (CheckedErr g b) = (number_word g, flag_words (codes "broken") b (are
 args_words (GiveUp g why b) = (number_word g, flag_words (codes "broken") b (are_over 32 (codes "broken") refl))
 args_words (PutBack k b) = (number_word k, flag_words (codes "broken") b (are_over 32 (codes "broken") refl))
 args_words (Detach k) = (number_word k, tt)
+args_words (Evict k) = (number_word k, tt)
 args_words (Fill c) = flag_words (codes "claimed") c (are_over 32 (codes "claimed") refl)
 args_words (Opened a) = (number_word a, tt)
 args_words (Failed a) = (number_word a, tt)

@@ -1,6 +1,6 @@
 -- The grammar of a script's lines.
 use Rattle.std.specs.Prelude.{ℕ, ◌^◌, ◌==◌, nat_lt, List, [], ◌∷◌, true, false, ◌&&◌, if◌then◌else◌, Option, Some, None, codes, decimal, option_and_then, option_map, unwrap_or}
-use Rattle.bb8_runner.specs.Words.{slice_split, bytes_eq, Act, Begin, Try, CheckedOk, CheckedErr, GiveUp, PutBack, Detach, Fill, Ask, Claim, Opened, Failed, Add, Reap, Retire, State, Join, Leave, Close, Look, TimedOut, Cancelled, Event}
+use Rattle.bb8_runner.specs.Words.{slice_split, bytes_eq, Act, Begin, Try, CheckedOk, CheckedErr, GiveUp, PutBack, Detach, Evict, Fill, Ask, Claim, Opened, Failed, Add, Reap, Retire, State, Join, Leave, Close, Look, TimedOut, Cancelled, Event}
 use Rattle.std.specs.Str.Parse.{digits_value}
 
 -- the second function applied to the value of the first, if there is one
@@ -48,9 +48,10 @@ numbered_act verb n =
     else (if bytes_eq verb (codes "cancel") then Some (GiveUp n Cancelled false)
     else (if bytes_eq verb (codes "return") then Some (PutBack n false)
     else (if bytes_eq verb (codes "detach") then Some (Detach n)
+    else (if bytes_eq verb (codes "evict") then Some (Evict n)
     else (if bytes_eq verb (codes "open") then Some (Opened n)
     else (if bytes_eq verb (codes "fail") then Some (Failed n)
-    else None))))))))
+    else None)))))))))
 
 -- the verbs with a number and the word `broken` after them
 abbrev pub broken_act : List ℕ → ℕ → Option Act

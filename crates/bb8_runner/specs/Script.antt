@@ -66,7 +66,7 @@ pub record IsRunText (settings : Settings) (events : List Event) (text : List �
   pub answers : List Answer
   pub last : Ledger ℕ
   pub allowed : IsRun (opening_with settings 0 0) events answers last
-  pub told : text ≡ output_of answers (figures last)
+  pub reported : text ≡ output_of answers (figures last)
 
 -- The output for an input: that of an allowed run of the script that it spells, or one line about
 -- its first bad line.

@@ -1,7 +1,7 @@
 -- The spelling of events and configurations: each line is one of these, and no other line is
 -- accepted.
 use Rattle.std.specs.Prelude.{◌≡◌, ◌≢◌, ℕ, ◌^◌, ◌<◌, List, [], ◌∷◌, ◌++◌, map, ⊤, Bool, true, false, Option, Some, None, codes, decimal}
-use Rattle.bb8_runner.specs.Words.{join_with_byte, Act, Begin, Try, CheckedOk, CheckedErr, GiveUp, PutBack, Detach, Fill, Ask, Claim, Opened, Failed, Add, Reap, Retire, State, Join, Leave, Close, Look, TimedOut, Cancelled, Event, QueueStrategy, Fifo, Lifo, Settings, default_settings, is_lawful}
+use Rattle.bb8_runner.specs.Words.{join_with_byte, Act, Begin, Try, CheckedOk, CheckedErr, GiveUp, PutBack, Detach, Evict, Fill, Ask, Claim, Opened, Failed, Add, Reap, Retire, State, Join, Leave, Close, Look, TimedOut, Cancelled, Event, QueueStrategy, Fifo, Lifo, Settings, default_settings, is_lawful}
 
 -- the verb of an event
 abbrev pub verb_of : Act → List ℕ
@@ -13,6 +13,7 @@ verb_of (GiveUp g TimedOut b) = codes "timeout"
 verb_of (GiveUp g Cancelled b) = codes "cancel"
 verb_of (PutBack k b) = codes "return"
 verb_of (Detach k) = codes "detach"
+verb_of (Evict k) = codes "evict"
 verb_of (Fill c) = codes "fill"
 verb_of Ask = codes "ask"
 verb_of Claim = codes "claim"
@@ -40,6 +41,7 @@ args_of (CheckedErr g b) = decimal g ∷ flag (codes "broken") b
 args_of (GiveUp g why b) = decimal g ∷ flag (codes "broken") b
 args_of (PutBack k b) = decimal k ∷ flag (codes "broken") b
 args_of (Detach k) = decimal k ∷ []
+args_of (Evict k) = decimal k ∷ []
 args_of (Fill c) = flag (codes "claimed") c
 args_of (Opened a) = decimal a ∷ []
 args_of (Failed a) = decimal a ∷ []
@@ -54,6 +56,7 @@ FitsAct (CheckedErr g b) = g < 2 ^ 64
 FitsAct (GiveUp g why b) = g < 2 ^ 64
 FitsAct (PutBack k b) = k < 2 ^ 64
 FitsAct (Detach k) = k < 2 ^ 64
+FitsAct (Evict k) = k < 2 ^ 64
 FitsAct (Opened a) = a < 2 ^ 64
 FitsAct (Failed a) = a < 2 ^ 64
 FitsAct _ = ⊤

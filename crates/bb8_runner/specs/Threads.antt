@@ -23,7 +23,7 @@ pub record IsDealtText (settings : Settings) (text : List ℕ) : Type 0 where
   pub counted : length entries ≡ sum_by (λ n. steps_of (notes_of n)) notes
   pub audited : Bool
   pub audits : Decides audited (IsAccount entries notes)
-  pub told : text ≡ dealt_text (length entries) audited (figures last)
+  pub reported : text ≡ dealt_text (length entries) audited (figures last)
 
 -- The output for an input: that of a history with the script's configuration, or one line about its
 -- first bad line.

@@ -1,14 +1,16 @@
 -- The names that the definitions use from other modules.
 pub use Rattle.std.specs.Str.{bytes_eq}
+pub use Rattle.std.specs.Char.{is_ascii_graphic}
+pub use Rattle.std.specs.Option.{option_or}
 pub use Rattle.bb8_runner.specs.declared.threads.arguments.Mode.TheVariants.{Script, Threads}
-pub use Rattle.std.specs.List.{slice_split, before_first, after_first, position_or_len, join_with_byte, sum_by}
+pub use Rattle.std.specs.List.{slice_split, before_first, after_first, position_or_len, join_with_byte, sum_by, list_all}
 pub use Rattle.bb8_core.specs.declared.replay.events.Act.{Act}
-pub use Rattle.bb8_core.specs.declared.replay.events.Act.TheVariants.{Begin, Try, CheckedOk, CheckedErr, GiveUp, PutBack, Detach, Fill, Ask, Claim, Opened, Failed, Add, Reap, Retire, State, Join, Leave, Close, Look}
+pub use Rattle.bb8_core.specs.declared.replay.events.Act.TheVariants.{Begin, Try, CheckedOk, CheckedErr, GiveUp, PutBack, Detach, Evict, Fill, Ask, Claim, Opened, Failed, Add, Reap, Retire, State, Join, Leave, Close, Look}
 pub use Rattle.bb8_types.specs.declared.reasons.Reason.TheVariants.{TimedOut, Cancelled}
 pub use Rattle.bb8_core.specs.declared.replay.events.Event.{Event}
 pub use Rattle.bb8_types.specs.declared.api.configuration.QueueStrategy.{QueueStrategy}
 pub use Rattle.bb8_types.specs.declared.api.configuration.QueueStrategy.TheVariants.{Fifo, Lifo}
-pub use Rattle.bb8_types.specs.Settings.{Settings, default_settings, is_lawful, settings_of}
+pub use Rattle.bb8_types.specs.Settings.{Settings, default_settings, is_lawful, is_unset_or_above_zero, is_unset_or_at_most, settings_of}
 pub use Rattle.bb8_ledger.specs.Ledger.{Ledger, figures, opening_with}
 pub use Rattle.bb8_core.specs.Run.{IsRun}
 pub use Rattle.bb8_core.specs.declared.replay.events.Answer.{Answer}

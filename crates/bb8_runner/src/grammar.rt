@@ -32,7 +32,7 @@ pub fn small_number(field: &str) -> Option<u32>
 }
 
 /// Parses the verbs without argument.
-fn plain_act(verb: &str) -> Option<Act>
+pub(crate) fn plain_act(verb: &str) -> Option<Act>
     ensures { result ≡ plain_act verb.now }
 {
     match verb {
@@ -64,7 +64,7 @@ fn worded_act(verb: &str, word: &str) -> Option<Act>
 }
 
 /// Parses the verbs with a number after them.
-fn numbered_act(verb: &str, n: u64) -> Option<Act>
+pub(crate) fn numbered_act(verb: &str, n: u64) -> Option<Act>
     ensures { result ≡ numbered_act verb.now n }
 {
     match verb {
@@ -75,6 +75,7 @@ fn numbered_act(verb: &str, n: u64) -> Option<Act>
         "cancel" => Some(Act::GiveUp(n, Reason::Cancelled, false)),
         "return" => Some(Act::PutBack(n, false)),
         "detach" => Some(Act::Detach(n)),
+        "evict" => Some(Act::Evict(n)),
         "open" => Some(Act::Opened(n)),
         "fail" => Some(Act::Failed(n)),
         _ => None,

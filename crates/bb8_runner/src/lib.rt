@@ -1,6 +1,7 @@
-//! Runs a script of events on a pool: from bytes to bytes, also in threads over one journal.
+//! Runs a script of events on a pool, also in threads over one journal.
 #![tactic(auto)]
 
+mod errors;
 pub mod fault;
 pub mod grammar;
 mod laws;

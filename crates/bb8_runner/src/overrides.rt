@@ -23,6 +23,6 @@ pub struct Overrides {
     pub reaper: Option<u64>,
     /// Whether a failed connect is retried.
     pub retry: Option<bool>,
-    /// Which idle connection is checked out first.
+    /// The order in which idle connections are checked out.
     pub strategy: Option<QueueStrategy>,
 }

@@ -1,16 +1,10 @@
 //! The report on transcripts that were run.
 
 use crate::fault::Fault;
-use crate::streams::{Sink, Source};
-use crate::transcripts::{Transcript, transcripts_of};
+use crate::streams::Sink;
+use crate::transcripts::Transcript;
 use std::alloc::Global;
 use std::{fmt, str};
-
-/// A program that runs scripts.
-pub trait Answers {
-    /// Returns the output of a script, line by line.
-    fn answers(&self, alloc: Global, script: &str) -> Result<Vec<u8>, Fault>;
-}
 
 /// The exit status if a transcript has other results than expected.
 const DIFFERENT: u8 = 1;
@@ -35,7 +29,7 @@ impl fmt::Display for Said<'_> {
 #[derive(Drop)]
 pub struct Report {
     /// One line for each transcript with other results than expected.
-    pub told: String,
+    pub reported: String,
     /// How many were run.
     pub transcripts: u64,
     /// How many results they expect.
@@ -50,7 +44,7 @@ impl Report {
     /// Returns the report on no transcripts.
     pub fn new(alloc: Global) -> Report {
         Report {
-            told: String::new(alloc),
+            reported: String::new(alloc),
             transcripts: 0,
             answers: 0,
             not_run: 0,
@@ -75,7 +69,7 @@ impl Report {
 
     /// Writes the differences and the totals.
     pub fn write<W: Sink>(&self, alloc: Global, writer: &mut W) -> Result<(), Fault> {
-        writer.write_whole(self.told.as_bytes())?;
+        writer.write_whole(self.reported.as_bytes())?;
         let sums = format!(in alloc; "{self}\n")?;
         writer.write_whole(sums.as_bytes())?;
         Ok(())
@@ -106,7 +100,7 @@ impl Report {
     ) -> Result<(), Fault> {
         self.different = self.different.saturating_add(1);
         writeln!(
-            self.told,
+            self.reported,
             "line {line}, {title}: wanted {wanted}, found {found}"
         )?;
         Ok(())
@@ -127,30 +121,6 @@ impl fmt::Display for Report {
             "transcripts {transcripts} answers {answers} not run {not_run} different {different}"
         )
     }
-}
-
-/// Reads all transcripts, runs them, and writes the report.
-pub fn run<A: Answers, R: Source, W: Sink>(
-    alloc: Global,
-    player: &A,
-    reader: &mut R,
-    writer: &mut W,
-) -> Result<Report, Fault> {
-    let input = reader.read_whole(alloc)?;
-    let Ok(text) = str::from_utf8(input.as_slice()) else {
-        return Err(Fault::Read);
-    };
-    let mut report = Report::new(alloc);
-    for transcript in transcripts_of(alloc, text)?.iter() {
-        if transcript.is_run {
-            let written = player.answers(alloc, transcript.script.as_str())?;
-            report.add(transcript, written.as_slice())?;
-        } else {
-            report.pass();
-        }
-    }
-    report.write(alloc, writer)?;
-    Ok(report)
 }
 
 /// Returns the exit status for a report.

@@ -64,7 +64,7 @@ fn once<T: Copy>(old: Option<T>, new: Option<T>) -> Option<Option<T>>
 /// Adds a setting. Returns None if there is no such setting, it is set already, or its value is not
 /// allowed.
 #[tactic(auto, unfolding(crate::specs::Opening::with_setting))]
-fn with_setting(overrides: Overrides, name: &str, value: &str) -> Option<Overrides>
+pub fn with_setting(overrides: Overrides, name: &str, value: &str) -> Option<Overrides>
     ensures { result ≡ with_setting overrides name.now value.now }
 {
     let mut o = overrides;
@@ -85,16 +85,17 @@ fn with_setting(overrides: Overrides, name: &str, value: &str) -> Option<Overrid
 }
 
 /// Returns a setting's name and value, which its first `=` separates.
-fn cut(field: &str) -> Option<(&str, &str)>
+pub fn cut(field: &str) -> Option<(&str, &str)>
     ensures { option_map (λ x. (x.0.now, x.1.now)) result ≡ cut field.now }
 {
     field.split_once('=')
 }
 
-fn overrides_of(fields: &[&str]) -> Option<Overrides>
-    ensures { result ≡ overrides_from nothing_set (map (λ x. x.now) fields.now) }
+/// Returns no settings.
+pub fn nothing_set() -> Overrides
+    ensures { result ≡ nothing_set }
 {
-    let mut overrides = Overrides {
+    Overrides {
         max_size: None,
         min_idle: None,
         check: None,
@@ -105,7 +106,13 @@ fn overrides_of(fields: &[&str]) -> Option<Overrides>
         reaper: None,
         retry: None,
         strategy: None,
-    };
+    }
+}
+
+fn overrides_of(fields: &[&str]) -> Option<Overrides>
+    ensures { result ≡ overrides_from nothing_set (map (λ x. x.now) fields.now) }
+{
+    let mut overrides = nothing_set();
     for field in fields {
         let (name, value) = cut(field)?;
         overrides = with_setting(overrides, name, value)?;
@@ -144,7 +151,7 @@ fn span_or(set: Option<u64>, default: Duration) -> Duration
 }
 
 /// Returns the configuration with defaults for what is not set.
-fn config_from(overrides: Overrides) -> Config
+pub fn config_from(overrides: Overrides) -> Config
     ensures { settings_of result ≡ settings_from overrides }
 {
     let config = Config::default();

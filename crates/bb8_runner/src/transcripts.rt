@@ -2,13 +2,24 @@
 
 use std::alloc::{AllocError, Global};
 
+/// How a transcript is run.
+#[derive(Clone, Copy)]
+pub enum Kind {
+    /// On the core alone.
+    Core,
+    /// On a pool with a server, a clock and a driver.
+    Live,
+    /// It is only counted.
+    NotRun,
+}
+
 /// The kind of a line of the file.
 #[derive(Clone, Copy)]
 enum Line<'a> {
     /// An empty line, or a comment.
     Comment,
-    /// The title of a transcript, and whether it is run.
-    Title(&'a str, bool),
+    /// The title of a transcript of this kind.
+    Title(&'a str, Kind),
     /// A line of the script without a result of its own.
     Script(&'a str),
     /// A line of the script, and its result.
@@ -22,9 +33,11 @@ impl<'a> Line<'a> {
         if text.is_empty() || text.starts_with('#') {
             Line::Comment
         } else if let Some(title) = text.strip_prefix("== ") {
-            Line::Title(title, true)
+            Line::Title(title, Kind::Core)
+        } else if let Some(title) = text.strip_prefix(":: ") {
+            Line::Title(title, Kind::Live)
         } else if let Some(title) = text.strip_prefix("~~ ") {
-            Line::Title(title, false)
+            Line::Title(title, Kind::NotRun)
         } else if let Some(answer) = text.strip_prefix("| ") {
             Line::Answer(answer)
         } else if let Some((line, answer)) = text.split_once(" | ") {
@@ -46,8 +59,7 @@ pub struct Wanted<'a> {
 #[derive(Drop)]
 pub struct Transcript<'a> {
     pub title: &'a str,
-    /// Whether the program runs it. The others are only counted.
-    pub is_run: bool,
+    pub kind: Kind,
     pub script: String,
     pub wanted: Vec<Wanted<'a>>,
     /// The number of its last line in the file.
@@ -55,10 +67,10 @@ pub struct Transcript<'a> {
 }
 
 impl<'a> Transcript<'a> {
-    fn new(alloc: Global, title: &'a str, is_run: bool, line: u64) -> Transcript<'a> {
+    fn new(alloc: Global, title: &'a str, kind: Kind, line: u64) -> Transcript<'a> {
         Transcript {
             title,
-            is_run,
+            kind,
             script: String::new(alloc),
             wanted: Vec::new(alloc),
             last: line,
@@ -97,8 +109,8 @@ pub fn transcripts_of(alloc: Global, text: &str) -> Result<Vec<Transcript<'_>>, 
     for text in text.split_terminator('\n') {
         number = number.saturating_add(1);
         let line = Line::of(text);
-        if let Line::Title(title, is_run) = line {
-            transcripts.push(Transcript::new(alloc, title, is_run, number))?;
+        if let Line::Title(title, kind) = line {
+            transcripts.push(Transcript::new(alloc, title, kind, number))?;
         } else if let Some(transcript) = transcripts.last_mut() {
             transcript.take(number, line)?;
         }

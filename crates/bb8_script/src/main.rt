@@ -1,5 +1,6 @@
 //! Runs a script of events over a pool: reads it from standard input and writes the results to
-//! standard output; or runs it in threads, and writes the verdict of their journal.
+//! standard output; or runs it in threads, and writes the verdict of their journal. The message
+//! about a bad line is written to standard error.
 #![tactic(auto)]
 
 ghost use Rattle.std.specs.Prelude.{◌≡◌, ◌≤◌, ℕ, IsErr, Ok, Some};
@@ -59,10 +60,22 @@ fn main(rt: HostRuntime) -> io::Result<ExitCode> {
             eprintln!(rt; "usage: bb8_script [threads N]")?;
             return Ok(ExitCode::from(BAD_ARGUMENTS));
         }
-        Ok(Some(Mode::Script)) => run_script(alloc, &mut rt.reader(), &mut io::writer(&rt)),
-        Ok(Some(Mode::Threads(threads))) => {
-            run_threads(&rt, alloc, threads, &mut rt.reader(), &mut io::writer(&rt))
+        Ok(Some(Mode::Script)) => {
+            run_script(
+                alloc,
+                &mut rt.reader(),
+                &mut io::writer(&rt),
+                &mut rt.stderr(),
+            )
         }
+        Ok(Some(Mode::Threads(threads))) => run_threads(
+            &rt,
+            alloc,
+            threads,
+            &mut rt.reader(),
+            &mut io::writer(&rt),
+            &mut rt.stderr(),
+        ),
         Err(fault) => Err(fault),
     };
     if let Err(fault) = &outcome {

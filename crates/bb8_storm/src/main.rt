@@ -2,19 +2,19 @@
 //! user callbacks whose results change at every call, while a driver in its own thread opens, fails
 //! and reaps.
 //!
-//! `bb8_storm ROUNDS`: three phases, in each of which four threads make this many rounds each.
+//! `bb8_storm ROUNDS`: three phases. In each, four threads make this many rounds.
 //! After a phase, when the threads and the driver have ended, it compares the pool's statistics
 //! with the threads' results and with the connections' own counts, and prints a line, which does
 //! not depend on the schedule. It exits with status 1 if they differ.
 #![tactic(auto)]
 
 ghost use Rattle.std.specs.Prelude.{Some};
-ghost use Rattle.bb8.specs.Parts.{IsBlankOf};
+ghost use Rattle.bb8.specs.Permits.{IsBlankOf};
 ghost use Rattle.bb8.specs.Settings.{default_settings};
 
 mod rounds;
 
-use bb8::{Builder, Driver, Gate, Memory, PoolCalls, PoolParts, Runtime, drive, in_threads};
+use bb8::{Builder, Driver, Gate, Memory, PoolCalls, PoolPermits, Runtime, drive, in_threads};
 use bb8_trials::hostile::{GetCounts, Harness, HostilePool};
 use rounds::{SIZE, Storm, THREADS};
 use std::alloc::Global;
@@ -56,7 +56,7 @@ impl Gate for Stop {
 
 /// Runs a phase beside a driver, and returns the threads' counts. The driver has ended then, and
 /// has not found the pool without a handle.
-fn in_phase<R: Runtime + Threads, L: PoolParts + 'static>(
+fn in_phase<R: Runtime + Threads, L: PoolPermits + 'static>(
     rt: R,
     storm: &Storm<'_, R, L>,
 ) -> Result<GetCounts, Memory> {
@@ -66,21 +66,21 @@ fn in_phase<R: Runtime + Threads, L: PoolParts + 'static>(
     let Ok(driving) = drive(&rt, driver, Stop { asked: stop }) else {
         return Err(Memory);
     };
-    let told = in_threads(&rt, THREADS, storm);
+    let results = in_threads(&rt, THREADS, storm);
     asked.store(true, Ordering::SeqCst);
     let driven = driving.join(&rt);
     let mut all = GetCounts::new();
     if driven.ended {
         all.blame();
     }
-    for one in told?.iter() {
+    for one in results?.iter() {
         all.add(one);
     }
     Ok(all)
 }
 
 /// Runs all phases over one pool.
-fn run<R: Runtime + Threads, L: PoolParts + 'static>(
+fn run<R: Runtime + Threads, L: PoolPermits + 'static>(
     rt: R,
     blank: Blank,
     rounds: u64,

@@ -1,6 +1,6 @@
-//! What each thread does with the pool.
+//! The work of each thread with the pool.
 
-use bb8::{Cancel, Gets, Job, PoolCalls, PoolParts, RunError, Runtime};
+use bb8::{Cancel, Gets, Job, PoolCalls, PoolPermits, RunError, Runtime};
 use bb8_trials::Refused;
 use bb8_trials::hostile::{Counted, GetCounts, Harness, HostilePool, RandomSource};
 use futures::Future;
@@ -20,7 +20,7 @@ const POLLS: u64 = 16;
 
 /// A phase over the pool.
 #[derive(Drop)]
-pub struct Storm<'a, R: Runtime, L: PoolParts> {
+pub struct Storm<'a, R: Runtime, L: PoolPermits> {
     pub pool: &'a HostilePool<R, L>,
     pub harness: &'a Harness,
     pub rt: R,
@@ -28,35 +28,35 @@ pub struct Storm<'a, R: Runtime, L: PoolParts> {
     pub rounds: u64,
 }
 
-/// What a thread does in a round.
+/// The work of a thread in a round.
 trait MakesRounds {
     /// Makes one round.
-    fn round(&self, task: &MockTask, source: &RandomSource, told: &mut GetCounts);
+    fn round(&self, task: &MockTask, source: &RandomSource, tally: &mut GetCounts);
 
     /// Makes a get, polls it a few times, and drops or cancels it if it has no result.
-    fn get(&self, task: &MockTask, source: &RandomSource, told: &mut GetCounts);
+    fn get(&self, task: &MockTask, source: &RandomSource, tally: &mut GetCounts);
 
     /// Makes a get with its own handle, by a handle that is dropped meanwhile, and polls and ends
     /// it as `get` does.
-    fn get_owned(&self, task: &MockTask, source: &RandomSource, told: &mut GetCounts);
+    fn get_owned(&self, task: &MockTask, source: &RandomSource, tally: &mut GetCounts);
 
     /// Makes a blocking get, with or without its own handle.
-    fn wait(&self, source: &RandomSource, told: &mut GetCounts);
+    fn wait(&self, source: &RandomSource, tally: &mut GetCounts);
 
     /// Polls an attempt to open a dedicated connection a few times, and ends it as `get` does.
     fn open_dedicated(&self, task: &MockTask, source: &RandomSource);
 
     /// Asks for the state, and compares it with its bounds.
-    fn ask(&self, told: &mut GetCounts);
+    fn ask(&self, tally: &mut GetCounts);
 }
 
 /// Counts a get that was polled this often and then dropped: it began with its first poll, and was
 /// cancelled if it had no result.
-fn note(told: &mut GetCounts, polls: u64, answered: bool) {
+fn note(tally: &mut GetCounts, polls: u64, answered: bool) {
     if polls > 0 {
-        told.begun = told.begun.saturating_add(1);
+        tally.begun = tally.begun.saturating_add(1);
         if !answered {
-            told.cancelled = told.cancelled.saturating_add(1);
+            tally.cancelled = tally.cancelled.saturating_add(1);
         }
     }
 }
@@ -65,18 +65,18 @@ fn note(told: &mut GetCounts, polls: u64, answered: bool) {
 fn end<G: DerefMut<Target = Counted> + Drop>(
     harness: &Harness,
     answer: Result<G, RunError<Refused>>,
-    told: &mut GetCounts,
+    tally: &mut GetCounts,
 ) {
     match answer {
         Ok(mut guard) => {
-            told.served = told.served.saturating_add(1);
+            tally.served = tally.served.saturating_add(1);
             if !guard.hold(&harness.gauges.holdings) {
-                told.blame();
+                tally.blame();
             }
             thread::yield_now();
         }
-        Err(RunError::TimedOut) => told.timed_out = told.timed_out.saturating_add(1),
-        Err(_) => told.blame(),
+        Err(RunError::TimedOut) => tally.timed_out = tally.timed_out.saturating_add(1),
+        Err(_) => tally.blame(),
     }
 }
 
@@ -84,14 +84,14 @@ fn end<G: DerefMut<Target = Counted> + Drop>(
 fn is_answered<
     G: DerefMut<Target = Counted> + Drop,
     F: Future<Output = Result<G, RunError<Refused>>>,
->(task: &MockTask, harness: &Harness, get: &mut F, polls: u64, told: &mut GetCounts) -> bool
+>(task: &MockTask, harness: &Harness, get: &mut F, polls: u64, tally: &mut GetCounts) -> bool
     requires { (f : F) → F.can_poll f }
 {
     for _ in 0..polls {
         match task.poll(get) {
             Poll::Pending => thread::yield_now(),
             Poll::Ready(answer) => {
-                end(harness, answer, told);
+                end(harness, answer, tally);
                 return true;
             }
         }
@@ -108,72 +108,72 @@ fn let_go<F: Cancel + Drop>(future: F, source: &RandomSource) {
     }
 }
 
-impl<R: Runtime, L: PoolParts> Job for &Storm<'_, R, L> {
-    type Told = GetCounts;
+impl<R: Runtime, L: PoolPermits> Job for &Storm<'_, R, L> {
+    type Output = GetCounts;
 
     /// Makes all rounds of the thread.
     fn run(self, thread: usize) -> GetCounts {
-        let mut told = GetCounts::new();
+        let mut tally = GetCounts::new();
         let seed = self
             .phase
             .saturating_mul(1000)
             .saturating_add(thread as u64);
         let Ok(source) = RandomSource::new(self.rt.alloc(), seed) else {
-            told.blame();
-            return told;
+            tally.blame();
+            return tally;
         };
         let Ok(task) = MockTask::new(&self.rt) else {
-            told.blame();
-            return told;
+            tally.blame();
+            return tally;
         };
         for _ in 0..self.rounds {
-            self.round(&task, &source, &mut told);
+            self.round(&task, &source, &mut tally);
         }
-        told
+        tally
     }
 }
 
-impl<R: Runtime, L: PoolParts> MakesRounds for Storm<'_, R, L> {
-    fn round(&self, task: &MockTask, source: &RandomSource, told: &mut GetCounts) {
+impl<R: Runtime, L: PoolPermits> MakesRounds for Storm<'_, R, L> {
+    fn round(&self, task: &MockTask, source: &RandomSource, tally: &mut GetCounts) {
         match source.below(10) {
-            0..=2 => self.get(task, source, told),
-            3..=5 => self.get_owned(task, source, told),
-            6..=7 => self.wait(source, told),
+            0..=2 => self.get(task, source, tally),
+            3..=5 => self.get_owned(task, source, tally),
+            6..=7 => self.wait(source, tally),
             8 => self.open_dedicated(task, source),
-            _ => self.ask(told),
+            _ => self.ask(tally),
         }
         if source.below(4) == 0 {
             let _ = self.pool.add(self.harness.connection());
         }
     }
 
-    fn get(&self, task: &MockTask, source: &RandomSource, told: &mut GetCounts) {
+    fn get(&self, task: &MockTask, source: &RandomSource, tally: &mut GetCounts) {
         let mut get = self.pool.get();
         let polls = source.below(POLLS);
-        let answered = is_answered(task, self.harness, &mut get, polls, told);
+        let answered = is_answered(task, self.harness, &mut get, polls, tally);
         let_go(get, source);
-        note(told, polls, answered);
+        note(tally, polls, answered);
     }
 
-    fn get_owned(&self, task: &MockTask, source: &RandomSource, told: &mut GetCounts) {
+    fn get_owned(&self, task: &MockTask, source: &RandomSource, tally: &mut GetCounts) {
         let Ok(clone) = self.pool.try_clone() else {
-            told.blame();
+            tally.blame();
             return;
         };
         let mut get = clone.get_owned();
         drop(clone);
         let polls = source.below(POLLS);
-        let answered = is_answered(task, self.harness, &mut get, polls, told);
+        let answered = is_answered(task, self.harness, &mut get, polls, tally);
         let_go(get, source);
-        note(told, polls, answered);
+        note(tally, polls, answered);
     }
 
-    fn wait(&self, source: &RandomSource, told: &mut GetCounts) {
-        told.begun = told.begun.saturating_add(1);
+    fn wait(&self, source: &RandomSource, tally: &mut GetCounts) {
+        tally.begun = tally.begun.saturating_add(1);
         if source.below(2) == 0 {
-            end(self.harness, self.pool.get_blocking(), told);
+            end(self.harness, self.pool.get_blocking(), tally);
         } else {
-            end(self.harness, self.pool.get_owned_blocking(), told);
+            end(self.harness, self.pool.get_owned_blocking(), tally);
         }
     }
 
@@ -188,10 +188,10 @@ impl<R: Runtime, L: PoolParts> MakesRounds for Storm<'_, R, L> {
         let_go(opening, source);
     }
 
-    fn ask(&self, told: &mut GetCounts) {
+    fn ask(&self, tally: &mut GetCounts) {
         let state = self.pool.state();
         if state.idle_connections > state.connections || state.connections > SIZE {
-            told.blame();
+            tally.blame();
         }
     }
 }

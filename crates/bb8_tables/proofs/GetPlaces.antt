@@ -31,7 +31,7 @@ never_absent a q {g} s is shows none = absurd (let clash : Some g ≡ None = sym
 pub named : {o : Option (Slot Getting)} {q : ℕ} (x y : Slot Getting) → o ≡ Some x → x.number ≡ q → o ≡ Some y → y.number ≡ q
 named {q = q} x y e is f = subst (λ (o : Option (Slot Getting)). IfSome o (λ z. z.number ≡ q)) (sym e ∙ f) is
 
--- a get is shown as it stands
+-- a get is shown as it is
 pub stands_is : (a : Inside) (q i : ℕ) (x : Slot Getting) (s : GetsView) → AreGoodGets a → view_of_gets a ≡ s
     → slot_at a.slots i ≡ Some x → x.number ≡ q → (g : Getting) × (get s.places q ≡ Some g) × (is_unnotified g.place ≡ false)
     → is_unnotified x.standing.place ≡ false
@@ -49,7 +49,7 @@ changed_good {a} {slots = slots} m n good at_place u m_is n_is alive_sum sum few
 
 -- ---- other memory
 
--- the same stands at each place
+-- each index has the same
 module _ (a : Inside) (slots : TableView (Slot Getting)) (peak : ℕ) (good : AreGoodGets a) (kept : (i : ℕ) → slot_at slots i ≡ slot_at a.slots i) (line_is : slots.line ≡ a.slots.line) where
   pub kept_good : a.alive ≤ peak → peak ≤ a.alive + slots.free → AreGoodGets (record a { slots = slots; peak = peak })
   kept_good few room = grind (arith, table_kept good.table kept, same_line good.waiting kept, Slots.tally_same is_some refl a.slots.slots slots.slots kept)
@@ -95,7 +95,7 @@ module _ (a : Inside) (good : AreGoodGets a) where
 
 -- ---- wait
 
--- a get that stands in no line begins to wait
+-- a get in no queue begins to wait
 module _ (a : Inside) (now place q : ℕ) (x : Slot Getting) (mid slots : TableView (Slot Getting)) (good : AreGoodGets a)
     (at_place : slot_at a.slots place ≡ Some x) (off : is_unnotified x.standing.place ≡ false) (number_is : x.number ≡ q)
     (sets : Restands a.slots mid place (get_in_wait now)) (in_line : slots ≡ record mid { line = mid.line ++ place ∷ [] }) where
@@ -116,7 +116,7 @@ wait_absent a place x good at_place off = places_absent a.slots.slots a.slots.li
 
 -- ---- turn
 
--- a get that stands in no line stands elsewhere
+-- a get in no queue changes its state
 module _ (a : Inside) (place q : ℕ) (p : GetPlace) (x : Slot Getting) (slots : TableView (Slot Getting)) (good : AreGoodGets a)
     (at_place : slot_at a.slots place ≡ Some x) (number_is : x.number ≡ q) (off : is_unnotified x.standing.place ≡ false)
     (sets : Restands a.slots slots place (get_with_place p)) where
@@ -177,7 +177,7 @@ none_first a none = sym (no_number_at a.slots.slots a.slots.line 0 (sym none))
 
 -- ---- end
 
--- a get ends, which stands in line or not
+-- a get ends, whether it is in the queue or not
 module _ (a : Inside) (place q : ℕ) (x : Slot Getting) (slots : TableView (Slot Getting)) (good : AreGoodGets a) (at_place : slot_at a.slots place ≡ Some x) (number_is : x.number ≡ q)
     (gone : Frees a.slots slots place) where
   pub end_counted : 1 ≤ a.alive
@@ -199,7 +199,7 @@ module _ (a : Inside) (place q : ℕ) (x : Slot Getting) (slots : TableView (Slo
 
 -- ---- born elsewhere
 
--- a new get that stands elsewhere at once
+-- a new get that has another state at once
 module _ (a : Inside) (place : ℕ) (mid : TableView (Slot Getting)) (good : AreGoodGets a) (free : slot_at a.slots place ≡ None) (within : place < length a.slots.slots)
     (takes : mid ≡ record a.slots {
       slots = set a.slots.slots place (Some (record { number = a.next; standing = record { place = Active; first_wait = None } }));

@@ -11,7 +11,7 @@ pub mod Orders
 pub mod RecordPlaces
 pub mod ReapPlaces
 pub mod Reaps
-pub mod Lent
+pub mod AccessCount
 pub mod ReapWalks
 pub mod Approvals
 pub mod GetPlaces

@@ -1,4 +1,4 @@
--- Lines of keys and of places that lead to the slots of a table, by a test of what stands there.
+-- Lines of keys and of places that lead to the slots of a table, by a test of what is there.
 use Rattle.bb8_tables.proofs.Words.{◌≡◌, ◌≢◌, ℕ, zero, suc, Bool, true, false, List, [], ◌∷◌, ◌++◌, drop, Option, Some, None, slice_get, get_or, refl, sym, ap, ◌∙◌, subst, eq-eqb, length, ◌+◌, arith, IsLine, ArePlaces, Absent}
 use Rattle.bb8_tables.specs.Machine as machine
 use Rattle.bb8_tables.proofs.Spelled.{without_cases, absent_get, absent_without_self, without_absent, without_keeps_absent}
@@ -74,7 +74,7 @@ get_absent p (x ∷ xs) h = (h 0 x refl, get_absent p xs (λ j k e. h (suc j) k 
 pub left_away : (places : List ℕ) (place : ℕ) → (j k : ℕ) → slice_get (machine.without place places) j ≡ Some k → k ≢ place
 left_away places place j k e s = absent_get place j (machine.without place places) (absent_without_self place places) (e ∙ ap (λ (q : ℕ). Some q) s)
 
--- a line of places, of which one leaves and changes
+-- a line of places: one leaves and changes
 module _ {X : Type 0} {test : X → Bool} where
   places_left : (xs : List (Option X)) (place : ℕ) (places : List ℕ) → ArePlaces test xs places → ArePlaces test xs (machine.without place places)
   places_left xs place [] l = l
@@ -97,7 +97,7 @@ module _ {X : Type 0} {test : X → Bool} where
   pub free_absent : (slots : List (Option X)) (places : List ℕ) (place : ℕ) → ArePlaces test slots places → get_or slots place None ≡ None → Absent place places
   free_absent slots places place l free = get_absent place places (free_avoids slots places place l free)
 
-  -- the first place stands there once
+  -- the first place is there once
   pub without_first : (slots : List (Option X)) (places : List ℕ) (place : ℕ) → ArePlaces test slots places → slice_get places 0 ≡ Some place → machine.without place places ≡ drop 1 places
   without_first slots [] place l e = absurd (cc)
   without_first slots (p ∷ places) place l e =
@@ -106,7 +106,7 @@ module _ {X : Type 0} {test : X → Bool} where
       let rest : Absent p places = get_absent p places (Slots.line_rest_avoids _ _ _ _ slots p places l) in
       rw (eq-eqb p place is) (without_absent place places (subst (λ (q : ℕ). Absent q places) is rest))
 
-  -- a line is shorter by one without a place of its own
+  -- a line is shorter by one without one of its places
   pub one_shorter : (slots : List (Option X)) (places : List ℕ) (place j : ℕ) → ArePlaces test slots places → slice_get places j ≡ Some place → length
       (machine.without place places) + 1 ≡ length places
   one_shorter slots [] place j l e = absurd (cc)

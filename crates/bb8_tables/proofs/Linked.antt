@@ -44,7 +44,7 @@ module _ (a : Inside) (good : IsGood a) where
   last_is [] e h = absurd (omega arith)
   last_is (x ∷ xs) e h = rw (let n : length (x ∷ xs) - 1 ≡ length xs = omega arith in n) (Spelled.last_is af be 0 x xs (subst (λ (ys : List ℕ). Spells af be 0 ys) e good.spells))
 
-  -- a place that stands in it is inside
+  -- a place in it is inside
   pub place_inside : (p j : ℕ) → slice_get (spelled a) j ≡ Some p → p < a.links.entries.len
   place_inside p j e = moves_inside p (Spelled.member_at af be 0 (spelled a) good.spells p j e).moves
 

@@ -1,8 +1,8 @@
--- The numbers of what stands at places in line.
+-- The numbers of the records at places in line.
 use Rattle.bb8_tables.proofs.Words.{◌≡◌, ◌≢◌, ℕ, suc, Bool, true, false, cond, not, eqb, List, [], ◌∷◌, ◌++◌, map, Option, Some, None, slice_get, get_or, refl, sym, ap, ◌∙◌, subst, eq-eqb, ne_eqb, map_push, eqb_tells, without, IsDistinct, ArePlaces, number_in, numbers_at, inl, inr}
 use Rattle.bb8_tables.proofs.Slots.{Updates}
 
--- a line without a place, told by something else that tells its places apart
+-- a line without a place, known from something else that distinguishes its places
 without_told : (f : ℕ → ℕ) (p : ℕ) (places : List ℕ) → ((j k : ℕ) → slice_get places j ≡ Some k → eqb k p ≡ eqb (f k) (f p)) → map f (without p places) ≡ without (f p) (map f places)
 without_told f p [] h = refl
 without_told f p (k ∷ places) h =
@@ -56,11 +56,11 @@ module _ {X : Type 0} (number : X → ℕ) where
   pub numbers_without : {test : X → Bool} (xs : List (Option X)) (places : List ℕ) (place : ℕ) (x : X) → IsDistinct number xs → ArePlaces test xs places
       → get_or xs place None ≡ Some x → numbers_at number xs (without place places) ≡ without (number x) (numbers_at number xs places)
   numbers_without xs places place x distinct are e =
-      without_told (λ i. number_in number (get_or xs i None)) place places told
+      without_told (λ i. number_in number (get_or xs i None)) place places outcome
       ∙ ap (λ (o : Option X). without (number_in number o) (numbers_at number xs places)) e
     where
-      told : (j k : ℕ) → slice_get places j ≡ Some k → eqb k place ≡ eqb (number_in number (get_or xs k None)) (number_in number (get_or xs place None))
-      told j k f =
+      outcome : (j k : ℕ) → slice_get places j ≡ Some k → eqb k place ≡ eqb (number_in number (get_or xs k None)) (number_in number (get_or xs place None))
+      outcome j k f =
           let stands = are.each j k f in
           elim (eqb_tells k place) [
             | inl t ↦ t.0 ∙ sym (eq-eqb _ _ (ap (λ (i : ℕ). number_in number (get_or xs i None)) t.1))

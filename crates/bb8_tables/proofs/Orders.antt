@@ -1,4 +1,4 @@
--- Orders of all the places at which stands what passes a test.
+-- Orders of all the places whose content passes a test.
 use Rattle.bb8_tables.proofs.Words.{◌≡◌, ◌≢◌, ◌≤◌, ℕ, zero, suc, Bool, true, false, arith, map, List, [], ◌∷◌, ◌++◌, Option, Some, None, slice_get, get_or, option_map, refl, sym, ap, ◌∙◌, ◌⊎◌, inl, inr, subst, map-append, slice_get-map, without, IsOrder, ArePlaces, IsRising, AllFrom, number_in, numbers_at, Absent, same_or_not}
 use Rattle.bb8_tables.proofs.Lines.{same_line, places_without, left_away}
 use Rattle.bb8_tables.proofs.Numbers.{numbers_all, numbers_kept, numbers_same, numbers_push}
@@ -26,7 +26,7 @@ rising_without f p (k ∷ places) r = without_cases (λ (ys : List ℕ). IsRisin
 
 -- ---- orders
 
--- what stands at a place passes
+-- the content of a place passes
 abbrev pub passes : {X : Type 0} → (X → Bool) → Option X → Bool
 passes test None = false
 passes test (Some x) = test x
@@ -44,12 +44,12 @@ module _ {X : Type 0} {test : X → Bool} {moment : X → ℕ} where
   pub no_order : IsOrder test moment [] []
   no_order = grind arith
 
-  -- the same stands at each place
+  -- each index has the same
   pub same_order : {old new : List (Option X)} {places : List ℕ} → IsOrder test moment old places → ((i : ℕ) → get_or new i None ≡ get_or old i None) → IsOrder test moment new places
   same_order {old} {new} {places} o same = grind (arith, same_line o.are same, numbers_all moment old new places same)
 
   module _ {old new : List (Option X)} {places : List ℕ} {place : ℕ} {slot : Option X} (o : IsOrder test moment old places) (u : Updates old new place slot) where
-    -- what holds of what stands after the change
+    -- what holds of the content after the change
     changed : (P : ℕ → Type 0) → ((x : X) → slot ≡ Some x → P place → test x ≡ false) → ((i : ℕ) → i ≢ place → P i → Absent i places) → (i : ℕ) (x : X) → get_or new i None ≡ Some x → P i
         → test x ≡ false
     changed P here there i x e p = elim (changed_cases i x u e) [ inl t ↦ here x t.1 (subst P t.0 p) | inr t ↦ o.all i x t.1 (there i t.0 p) ]
@@ -111,13 +111,13 @@ module _ {X : Type 0} {test : X → Bool} {moment : X → ℕ} where
 
 -- ---- what is in an order
 
--- a place is absent, or stands at an index
+-- a place is absent, or is at an index
 absent_or_at : (p : ℕ) (xs : List ℕ) → Absent p xs ⊎ ((j : ℕ) × (slice_get xs j ≡ Some p))
 absent_or_at p [] = inl tt
 absent_or_at p (x ∷ xs) = elim (same_or_not x p) [ inl t ↦ inr (0, ap (λ (q : ℕ). Some q) t.1) | inr t ↦ elim (absent_or_at p xs) [ inl a ↦ inl (t.1, a) | inr h ↦ inr (suc h.0, h.1) ] ]
 
 module _ {X : Type 0} {test : X → Bool} {moment : X → ℕ} where
-  -- what passes stands in the order
+  -- what passes is in the order
   pub found_in : {slots : List (Option X)} {places : List ℕ} → IsOrder test moment slots places → (i : ℕ) (x : X) → get_or slots i None ≡ Some x → test x ≡ true
       → (j : ℕ) × (slice_get places j ≡ Some i)
   found_in {slots} {places} o i x e on = elim (absent_or_at i places) [ inl a ↦ absurd (let clash : true ≡ false = sym on ∙ o.all i x e a in cc) | inr h ↦ h ]

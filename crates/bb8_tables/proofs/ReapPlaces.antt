@@ -1,5 +1,6 @@
 -- Idle connections that end.
-use Rattle.bb8_tables.proofs.Words.{◌≡◌, ℕ, ◌+◌, ◌-◌, ◌≤◌, Bool, true, false, List, length, Option, Some, None, slice_get, refl, sym, ap, ◌∙◌, arith, subst, append-nil, drop-map, length-map, get, Buffer, Settings, is_idle, is_unclaimed, is_conn, is_approval, lives_out, Standing, Slot, Closed, offered_all, closed_in, EndsFirst, TableView, slot_at, without, after_reaped, number_in, numbers_at, view_of_records, AreGoodRecords, RecordsView, Inside, idle_is}
+use Rattle.bb8_tables.proofs.Words.{◌≡◌, ℕ, ◌+◌, ◌-◌, ◌≤◌, Bool, true, false, List, length, Option, Some, None, slice_get, refl, sym, ap, ◌∙◌, arith, subst, append-nil, drop-map, length-map, get, Buffer, Settings, is_idle, is_unclaimed, is_conn, is_approval, lives_out, Standing, Slot, Closed, offered_all, closed_in, EndsFirst, TableView, slot_at, without, after_reaped, number_in, numbers_at, view_of_records, AreGoodRecords, RecordsView, Inside, idle_is, Place, Idle}
+use Rattle.std.specs.Option.{IfSome}
 use Rattle.bb8_tables.specs.Machine as machine
 use Rattle.bb8_tables.proofs.Lines.{other_line, without_first, one_shorter}
 use Rattle.bb8_tables.proofs.Orders.{found_in}
@@ -12,7 +13,7 @@ module _ {C : Type 0} where
   pub lives_idle : (config : Settings) (now : ℕ) (s : Standing C) → lives_out config now (Some s) ≡ true → is_idle s.place ≡ true
   lives_idle config now s h = grind arith
 
-  -- an idle connection ends, wherever it stands in line
+  -- an idle connection ends, wherever it is in the queue
   module _ (a : Inside C) (place : ℕ) (x : Slot (Standing C)) (slots : TableView (Slot (Standing C))) (good : AreGoodRecords a)
       (at_place : slot_at a.slots place ≡ Some x) (was : is_idle x.standing.place ≡ true) (gone : Frees a.slots slots place) where
     pub freed_births : slots.births ≡ without place a.slots.births
@@ -32,6 +33,22 @@ module _ {C : Type 0} where
         (cleared_shown x.number place good.table at_place refl)
         (cleared_line x.number place good.table at_place refl a.slots.line ∙ line_without x.number place good.table at_place refl a.slots.line good.idle.are)
         refl refl refl refl)
+
+    -- its connection is handed out
+    pub freed_handed : (k : ℕ) (old : RecordsView C) (given : Slot (Standing C)) (o : Option C) → view_of_records a ≡ old → x.number ≡ k → given ≡ x
+        → IfSome o (λ conn. given.standing.place ≡ Idle conn)
+        → IfSome o (λ conn. ((birth entered : ℕ) × (get old.places k ≡ Some (record { place = Idle conn; birth = birth; entered = entered })))
+        × (view_of_records (record a { slots = slots; conns = a.conns - 1 }) ≡ after_reaped k old))
+    freed_handed k old given None shows number same h = tt
+    freed_handed k old given (Some conn) shows number same h = (
+      (
+        x.standing.birth,
+        x.standing.entered,
+        ap (λ (s : RecordsView C). get s.places k) (sym shows) ∙ shown_at a place k x good at_place number
+            ∙ ap (λ (p : Place C). Some (record x.standing { place = p })) (ap (λ (y : Slot (Standing C)). y.standing.place) (sym same) ∙ h),
+      ),
+      freed_view ∙ ap (λ (n : ℕ). after_reaped n (view_of_records a)) number ∙ ap (after_reaped k) shows,
+    )
 
     -- the line is shorter by one
     freed_shorter : length slots.line + 1 ≡ length a.slots.line

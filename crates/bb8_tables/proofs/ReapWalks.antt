@@ -1,6 +1,6 @@
 -- The two walks of a reap.
-use Rattle.bb8_tables.proofs.Words.{slice_get_within, append_assoc, ◌≡◌, ◌⊎◌, inl, inr, ℕ, zero, suc, ◌+◌, ◌-◌, ◌<◌, ◌≤◌, Bool, true, false, ◌&&◌, List, [], ◌∷◌, ◌++◌, length, Option, Some, None, slice_get, refl, sym, ap, ◌∙◌, arith, subst, length-append, eq-eqb, ne_eqb, length-map, leb-false, lt-leb, get, most_records, Settings, one, tally, is_idle, is_conn, is_out, is_past, is_expired, idles_out, lives_out, Place, Unclaimed, Held, Guarded, Standing, Slot, Young, Out, Aged, Buffer, Closed, offered_all, closed_in, closed_of, EndsFirst, Ends, EndsIdle, Passes, Lent, AddsLent, TableView, slot_at, without, AreFirst, Reaps, ArePlaces, IsRising, numbers_at, Absent, view_of_records, AreGoodRecords, passes, RecordsView, Inside, idle_from}
-use Rattle.bb8_tables.proofs.Lent.{adds_none, adds_more, adds_within}
+use Rattle.bb8_tables.proofs.Words.{slice_get_within, append_assoc, ◌≡◌, ◌⊎◌, inl, inr, ℕ, zero, suc, ◌+◌, ◌-◌, ◌<◌, ◌≤◌, Bool, true, false, ◌&&◌, List, [], ◌∷◌, ◌++◌, length, Option, Some, None, slice_get, refl, sym, ap, ◌∙◌, arith, subst, length-append, eq-eqb, ne_eqb, length-map, leb-false, lt-leb, get, most_records, Settings, one, tally, is_idle, is_conn, is_out, is_past, is_expired, idles_out, lives_out, Place, Unclaimed, Held, Guarded, Standing, Slot, Young, Out, Aged, Buffer, Closed, offered_all, closed_in, closed_of, EndsFirst, Ends, EndsIdle, Passes, AccessCount, AddsReads, TableView, slot_at, without, AreFirst, Reaps, ArePlaces, IsRising, numbers_at, Absent, view_of_records, AreGoodRecords, passes, RecordsView, Inside, idle_from}
+use Rattle.bb8_tables.proofs.AccessCount.{adds_none, adds_more, adds_within}
 use Rattle.bb8_tables.proofs.Lines.{get_absent}
 use Rattle.bb8_tables.proofs.Orders.{found_in, no_earlier}
 use Rattle.bb8_tables.proofs.TablePlaces.{Frees, number_at}
@@ -132,43 +132,43 @@ module _ {C : Type 0} where
   first_shown a place x first at_place = number_at a.slots.slots a.slots.line 0 first at_place
 
   -- how far the walk has come
-  pub record InIdle (config : Settings) (now : ℕ) (old new : RecordsView C) (told : ℕ) (list listed : Buffer (Closed C)) (lent lent_now : Lent) : Type 0 where
+  pub record InIdle (config : Settings) (now : ℕ) (old new : RecordsView C) (outcome : ℕ) (list listed : Buffer (Closed C)) (reads reads_now : AccessCount) : Type 0 where
     pub ks : List ℕ
     pub first : AreFirst (idles_out config now) ks old
-    pub ends : Ends (idles_out config now) old ks new told list listed
-    pub lendings : AddsLent told 0 lent lent_now
+    pub ends : Ends (idles_out config now) old ks new outcome list listed
+    pub accesses : AddsReads outcome 0 reads reads_now
 
-  pub idle_more : {config : Settings} {now : ℕ} {old mid new : RecordsView C} {told : ℕ} {list listed offered : Buffer (Closed C)} {lent mid_lent new_lent : Lent}
-      → InIdle config now old mid told list listed lent mid_lent
-      → (k : ℕ) × (slice_get mid.idle 0 ≡ Some k) × EndsFirst (idles_out config now) mid k new listed offered → AddsLent 1 0 mid_lent new_lent
-      → InIdle config now old new (told + 1) list offered lent new_lent
-  idle_more {config} {now} {old} {mid} {new} {told} {list} {listed} {offered} {lent} {mid_lent} {new_lent} i e l = record {
+  pub idle_more : {config : Settings} {now : ℕ} {old mid new : RecordsView C} {outcome : ℕ} {list listed offered : Buffer (Closed C)} {reads mid_reads new_reads : AccessCount}
+      → InIdle config now old mid outcome list listed reads mid_reads
+      → (k : ℕ) × (slice_get mid.idle 0 ≡ Some k) × EndsFirst (idles_out config now) mid k new listed offered → AddsReads 1 0 mid_reads new_reads
+      → InIdle config now old new (outcome + 1) list offered reads new_reads
+  idle_more {config} {now} {old} {mid} {new} {outcome} {list} {listed} {offered} {reads} {mid_reads} {new_reads} i e l = record {
     ks = i.ks ++ e.0 ∷ [];
     first = first_more (idles_out config now) i.ks e.0 old i.first (ap (λ (s : RecordsView C). slice_get s.idle 0) (sym i.ends.state) ∙ e.1)
         (ap (λ (s : RecordsView C). idles_out config now (get s.places e.0)) (sym i.ends.state) ∙ e.2.is_due);
     ends = ends_more (idles_out config now) i.ends e.2 refl;
-    lendings = adds_more told 1 lent mid_lent new_lent i.lendings l;
+    accesses = adds_more outcome 1 reads mid_reads new_reads i.accesses l;
   }
 
   -- ---- the walk along the order of births
 
-  -- at each of the places stands a connection that is out
+  -- at each of the places is a checked-out connection
   abbrev pub AreOut : TableView (Slot (Standing C)) → List ℕ → Type 0
   AreOut t ks = (j k : ℕ) → slice_get ks j ≡ Some k → (x : Slot (Standing C)) × (slot_at t k ≡ Some x) × (is_out x.standing.place ≡ true)
 
   -- how far the walk has come: it has passed those that are out, and ended the others
-  pub record InBirths (config : Settings) (now : ℕ) (old : RecordsView C) (list : Buffer (Closed C)) (lent : Lent) (many : ℕ) (a : Inside C) (told : ℕ) (at : Option ℕ)
-      (listed : Buffer (Closed C)) (lent_now : Lent) (counter : ℕ) : Type 0 where
+  pub record InBirths (config : Settings) (now : ℕ) (old : RecordsView C) (list : Buffer (Closed C)) (reads : AccessCount) (many : ℕ) (a : Inside C) (outcome : ℕ) (at : Option ℕ)
+      (listed : Buffer (Closed C)) (reads_now : AccessCount) (counter : ℕ) : Type 0 where
     pub good : AreGoodRecords a
     pub ks : List ℕ
-    pub ends : Ends (lives_out config now) old ks (view_of_records a) told list listed
+    pub ends : Ends (lives_out config now) old ks (view_of_records a) outcome list listed
     pub passed : List ℕ
     pub rest : List ℕ
     pub births : a.slots.births ≡ passed ++ rest
     pub at_is : at ≡ slice_get rest 0
     pub outs : AreOut a.slots passed
-    pub steps : told + length passed ≡ counter
-    pub lendings : AddsLent counter 0 lent lent_now
+    pub steps : outcome + length passed ≡ counter
+    pub accesses : AddsReads counter 0 reads reads_now
     pub left : counter + length rest ≡ many
     pub few : old.conns ≤ most_records
     pub many_few : many ≤ old.conns
@@ -176,7 +176,7 @@ module _ {C : Type 0} where
   out_push : (t : TableView (Slot (Standing C))) (ks : List ℕ) (k : ℕ) (x : Slot (Standing C)) → AreOut t ks → slot_at t k ≡ Some x → is_out x.standing.place ≡ true → AreOut t (ks ++ k ∷ [])
   out_push t ks k x o e is j q f = grind (arith, get-push ks k q j f)
 
-  -- no place stands twice in a line that is cut at one
+  -- no place is twice in a line that is cut at one
   module _ (slots : List (Option (Slot (Standing C)))) (passed rest : List ℕ) (place : ℕ) (are : ArePlaces (λ (x : Slot (Standing C)). is_conn x.standing.place) slots (passed ++ place ∷ rest)) where
     middle : slice_get (passed ++ place ∷ rest) (length passed) ≡ Some place
     middle = get_back passed (place ∷ rest) (length passed) 0 (omega arith)
@@ -192,21 +192,21 @@ module _ {C : Type 0} where
   pub conns_few : (a : Inside C) (s : RecordsView C) → AreGoodRecords a → view_of_records a ≡ s → s.conns ≤ most_records
   conns_few a s good shows = omega (arith, ap (λ (t : RecordsView C). t.conns) shows, good.sizes.peak_holds, good.sizes.peak_few)
 
-  module _ {config : Settings} {now : ℕ} {old : RecordsView C} {list : Buffer (Closed C)} {lent : Lent} {many : ℕ} where
+  module _ {config : Settings} {now : ℕ} {old : RecordsView C} {list : Buffer (Closed C)} {reads : AccessCount} {many : ℕ} where
     -- it begins at the one that was born first
-    pub births_start : (a : Inside C) (told : ℕ) (at : Option ℕ) → AreGoodRecords a → view_of_records a ≡ old → told ≡ 0
-        → at ≡ slice_get a.slots.births 0 → many ≡ length a.slots.births → InBirths config now old list lent many a told at list lent 0
-    births_start a told at good shows zero_told at_is all = record {
+    pub births_start : (a : Inside C) (outcome : ℕ) (at : Option ℕ) → AreGoodRecords a → view_of_records a ≡ old → outcome ≡ 0
+        → at ≡ slice_get a.slots.births 0 → many ≡ length a.slots.births → InBirths config now old list reads many a outcome at list reads 0
+    births_start a outcome at good shows zero_told at_is all = record {
       good = good;
       ks = [];
-      ends = subst (λ (s : RecordsView C). Ends (lives_out config now) s [] (view_of_records a) told list list) shows (none_ended (lives_out config now) (view_of_records a) told list zero_told);
+      ends = subst (λ (s : RecordsView C). Ends (lives_out config now) s [] (view_of_records a) outcome list list) shows (none_ended (lives_out config now) (view_of_records a) outcome list zero_told);
       passed = [];
       rest = a.slots.births;
       births = refl;
       at_is = at_is;
       outs = λ j k e. cc;
       steps = omega arith;
-      lendings = adds_none lent;
+      accesses = adds_none reads;
       left = omega arith;
       few = conns_few a old good shows;
       many_few =
@@ -214,7 +214,7 @@ module _ {C : Type 0} where
           omega (arith, ap (λ (s : RecordsView C). s.conns) shows, good.conns_are);
     }
 
-    module _ {a : Inside C} {told place : ℕ} {listed : Buffer (Closed C)} {lent_now : Lent} {counter : ℕ} (i : InBirths config now old list lent many a told (Some place) listed lent_now counter) where
+    module _ {a : Inside C} {outcome place : ℕ} {listed : Buffer (Closed C)} {reads_now : AccessCount} {counter : ℕ} (i : InBirths config now old list reads many a outcome (Some place) listed reads_now counter) where
       ahead : (rest : List ℕ) × (i.rest ≡ place ∷ rest)
       ahead = head_split place i.rest (sym i.at_is)
 
@@ -234,9 +234,9 @@ module _ {C : Type 0} where
       births_stands = (births_conn.0, births_conn.1)
 
       -- it passes one that is out
-      pub births_out : {next : Option ℕ} {new_lent : Lent} → Passes config now a.slots place (Out next) → AddsLent 1 0 lent_now new_lent
-          → InBirths config now old list lent many a told next listed new_lent (counter + 1)
-      births_out {next} {new_lent} p l =
+      pub births_out : {next : Option ℕ} {new_reads : AccessCount} → Passes config now a.slots place (Out next) → AddsReads 1 0 reads_now new_reads
+          → InBirths config now old list reads many a outcome next listed new_reads (counter + 1)
+      births_out {next} {new_reads} p l =
           let same : births_conn.0 ≡ p.0 = let both : Some births_conn.0 ≡ Some p.0 = sym births_conn.1 ∙ p.1 in cc in
           let conn : is_conn p.0.standing.place ≡ true = subst (λ (x : Slot (Standing C)). is_conn x.standing.place ≡ true) same births_conn.2 in
           let longer : length (i.passed ++ place ∷ []) ≡ length i.passed + 1 = length-append i.passed (place ∷ []) in
@@ -250,7 +250,7 @@ module _ {C : Type 0} where
             at_is = p.3 i.passed ahead.0 cut;
             outs = out_push a.slots i.passed place p.0 i.outs p.1 (out_conn p.0.standing.place conn p.2);
             steps = omega (arith, i.steps);
-            lendings = adds_more counter 1 lent lent_now new_lent i.lendings l;
+            accesses = adds_more counter 1 reads reads_now new_reads i.accesses l;
             left = omega (arith, i.left, more_left);
             few = i.few;
             many_few = i.many_few;
@@ -261,10 +261,10 @@ module _ {C : Type 0} where
         aged_idle : is_idle p.0.standing.place ≡ true
         aged_idle = lives_idle config now p.0.standing p.2
 
-        pub births_aged : {more : ℕ} {offered : Buffer (Closed C)} {new_lent : Lent} → more ≡ told + 1 → ((x : Slot (Standing C)) → slot_at a.slots place ≡ Some x
-            → offered ≡ offered_all (closed_in x.number (Some x.standing)) listed) → AddsLent 1 0 lent_now new_lent
-            → InBirths config now old list lent many (record a { slots = slots; conns = a.conns - 1 }) more next offered new_lent (counter + 1)
-        births_aged {more} {offered} {new_lent} is put l =
+        pub births_aged : {more : ℕ} {offered : Buffer (Closed C)} {new_reads : AccessCount} → more ≡ outcome + 1 → ((x : Slot (Standing C)) → slot_at a.slots place ≡ Some x
+            → offered ≡ offered_all (closed_in x.number (Some x.standing)) listed) → AddsReads 1 0 reads_now new_reads
+            → InBirths config now old list reads many (record a { slots = slots; conns = a.conns - 1 }) more next offered new_reads (counter + 1)
+        births_aged {more} {offered} {new_reads} is put l =
             let are = subst (λ (ks : List ℕ). ArePlaces (λ (x : Slot (Standing C)). is_conn x.standing.place) a.slots.slots ks) cut i.good.births.are in
             let front : Absent place i.passed = absent_front a.slots.slots i.passed ahead.0 place are in
             record {
@@ -280,7 +280,7 @@ module _ {C : Type 0} where
                   let others = subst (λ (t : TableView (Slot (Standing C))). Updates a.slots.slots t.slots place None) (sym gone) (set_at a.slots.slots place p.0 None p.1) in
                   (o.0, others.others k (λ s. absent_get place j i.passed front (e ∙ ap (λ (q : ℕ). Some q) s)) ∙ o.1, o.2);
               steps = omega (arith, i.steps);
-              lendings = adds_more counter 1 lent lent_now new_lent i.lendings l;
+              accesses = adds_more counter 1 reads reads_now new_reads i.accesses l;
               left = omega (arith, i.left, more_left);
               few = i.few;
               many_few = i.many_few;
@@ -288,7 +288,7 @@ module _ {C : Type 0} where
 
     -- ---- where it ends
 
-    module _ {a : Inside C} {told : ℕ} {at : Option ℕ} {listed : Buffer (Closed C)} {lent_now : Lent} {counter : ℕ} (i : InBirths config now old list lent many a told at listed lent_now counter) where
+    module _ {a : Inside C} {outcome : ℕ} {at : Option ℕ} {listed : Buffer (Closed C)} {reads_now : AccessCount} {counter : ℕ} (i : InBirths config now old list reads many a outcome at listed reads_now counter) where
       -- none is left that lives too long, where none is ahead
       none_aged : ((j k : ℕ) (y : Slot (Standing C)) → slice_get i.rest j ≡ Some k → slot_at a.slots k ≡ Some y → is_expired config.max_lifetime now y.standing.birth ≡ false)
           → (k : ℕ) → lives_out config now (get (view_of_records a).places k) ≡ false
@@ -325,11 +325,11 @@ module _ {C : Type 0} where
           in_births : (j k : ℕ) → slice_get i.passed j ≡ Some k → slice_get a.slots.births j ≡ Some k
           in_births j k e = ap (λ (ks : List ℕ). slice_get ks j) i.births ∙ get_front i.passed i.rest j k e
 
-      pub lent_at_most : AddsLent (told + (old.conns - length old.idle)) 0 lent lent_now
-      lent_at_most = adds_within counter (told + (old.conns - length old.idle)) lent lent_now i.lendings (omega (arith, i.steps, few_passed))
+      pub reads_at_most : AddsReads (outcome + (old.conns - length old.idle)) 0 reads reads_now
+      reads_at_most = adds_within counter (outcome + (old.conns - length old.idle)) reads reads_now i.accesses (omega (arith, i.steps, few_passed))
 
     -- it stops at the first that does not live too long
-    pub none_after : {a : Inside C} {told place : ℕ} {listed : Buffer (Closed C)} {lent_now : Lent} {counter : ℕ} → InBirths config now old list lent many a told (Some place) listed lent_now counter
+    pub none_after : {a : Inside C} {outcome place : ℕ} {listed : Buffer (Closed C)} {reads_now : AccessCount} {counter : ℕ} → InBirths config now old list reads many a outcome (Some place) listed reads_now counter
         → Passes config now a.slots place Young
         → (k : ℕ) → lives_out config now (get (view_of_records a).places k) ≡ false
     none_after {a} {place = place} i p = none_aged i (λ j k y e f. shorter_span config.max_lifetime (now - p.0.standing.birth) (now - y.standing.birth) p.2

@@ -21,8 +21,8 @@ module _ {C : Type 0} where
 
 module _ {C : Type 0} (test : Option (Standing C) → Bool) where
   -- nothing has ended yet
-  pub none_ended : (s : RecordsView C) (told : ℕ) (list : Buffer (Closed C)) → told ≡ 0 → Ends test s [] s told list list
-  none_ended s told list is = record { each = tt; state = refl; closed = is; conns = omega arith; idle = omega arith; listed = refl }
+  pub none_ended : (s : RecordsView C) (outcome : ℕ) (list : Buffer (Closed C)) → outcome ≡ 0 → Ends test s [] s outcome list list
+  none_ended s outcome list is = record { each = tt; state = refl; closed = is; conns = omega arith; idle = omega arith; listed = refl }
 
   due_both : (ks js : List ℕ) (s : RecordsView C) → AreReaped test ks s → AreReaped test js (after_reap ks s) → AreReaped test (ks ++ js) s
   due_both [] js s a b = b
@@ -40,9 +40,9 @@ module _ {C : Type 0} (test : Option (Standing C) → Bool) where
   reap_both (k ∷ ks) js s = reap_both ks js (after_reaped k s)
 
   -- one more has ended
-  pub ends_more : {k : ℕ} {old mid new : RecordsView C} {ks : List ℕ} {told more : ℕ} {list listed offered : Buffer (Closed C)} → Ends test old ks mid told list listed
-      → EndsFirst test mid k new listed offered → more ≡ told + 1 → Ends test old (ks ++ k ∷ []) new more list offered
-  ends_more {k} {old} {mid} {new} {ks} {told} {more} {list} {listed} {offered} a e is =
+  pub ends_more : {k : ℕ} {old mid new : RecordsView C} {ks : List ℕ} {outcome more : ℕ} {list listed offered : Buffer (Closed C)} → Ends test old ks mid outcome list listed
+      → EndsFirst test mid k new listed offered → more ≡ outcome + 1 → Ends test old (ks ++ k ∷ []) new more list offered
+  ends_more {k} {old} {mid} {new} {ks} {outcome} {more} {list} {listed} {offered} a e is =
       let many : length (ks ++ k ∷ []) ≡ length ks + 1 = length-append ks (k ∷ []) in
       record {
         each = due_both ks (k ∷ []) old a.each (subst (λ (s : RecordsView C). test (get s.places k) ≡ true) a.state e.is_due, tt);

@@ -32,7 +32,7 @@ module _ {C : Type 0} where
       Slots.line_length _ _ _ _ (passes is_approval) refl (λ x e. ap is_approval (unclaimed_is x.standing.place e)) a.unclaimed.items a.slots.slots good.unclaimed in
       omega (arith, good.approved_are)
 
-  -- what stands somewhere is counted
+  -- what is somewhere is counted
   pub conn_counted : (a : Inside C) (i : ℕ) (x : Slot (Standing C)) (b : Bool) → AreGoodRecords a → slot_at a.slots i ≡ Some x → is_conn x.standing.place ≡ b → one b ≤ a.conns
   conn_counted a i x b good e is = omega (arith, tally_at (passes is_conn) refl a.slots.slots i, ap one (ap (passes is_conn) e ∙ is), good.conns_are)
 
@@ -81,12 +81,12 @@ module _ {C : Type 0} where
       → ((i : ℕ) (x : Slot (Standing C)) → slot_at a.slots i ≡ Some x → x.number ≢ q) → G
   never_absent a q {r} s is shows none = absurd (let clash : Some r ≡ None = sym shows ∙ none_shown a q s is none in cc)
 
-  -- the record that is shown of a number stands where the number was found
+  -- the record that is shown of a number is where the number was found
   pub stood : (a : Inside C) (q i : ℕ) (x : Slot (Standing C)) (test : Place C → Bool) (s : RecordsView C) → AreGoodRecords a → view_of_records a ≡ s
       → (r : Standing C) × (get s.places q ≡ Some r) × (test r.place ≡ true) → slot_at a.slots i ≡ Some x → x.number ≡ q → test x.standing.place ≡ true
   stood a q i x test s good is h e same = grind (arith, shown_at a i q x good e same)
 
-  -- what a look finds at its place is what stands there
+  -- what a look finds at its place is what is there
   pub passed : {o : Option (Slot (Standing C))} (x y : Slot (Standing C)) (test : Place C → Bool) → o ≡ Some x → o ≡ Some y → test y.standing.place ≡ true → test x.standing.place ≡ true
   passed x y test e f on = subst (λ (o : Option (Slot (Standing C))). IfSome o (λ z. test z.standing.place ≡ true)) (sym f ∙ e) on
 
@@ -121,7 +121,7 @@ module _ {C : Type 0} where
 
   -- ---- other memory
 
-  -- the same stands at each place
+  -- each index has the same
   module _ (a : Inside C) (slots : TableView (Slot (Standing C))) (peak : ℕ) (good : AreGoodRecords a) (kept : (i : ℕ) → slot_at slots i ≡ slot_at a.slots i) (line_is : slots.line ≡ a.slots.line)
       (births_are : slots.births ≡ a.slots.births) where
     pub kept_good : (unclaimed : Buffer Key) → unclaimed.items ≡ a.unclaimed.items → a.conns + a.approved ≤ peak → peak ≤ most_records → peak ≤ a.conns + a.approved + slots.free
@@ -177,7 +177,7 @@ module _ {C : Type 0} where
       (good : AreGoodRecords a) (first : Some place ≡ slice_get a.slots.line (first_place strategy (length a.slots.line)))
       (number_is : (x : Slot (Standing C)) → slot_at mid place ≡ Some x → number ≡ x.number) (is : out ≡ place_with holder)
       (gone : mid ≡ record a.slots { line = machine.without place a.slots.line }) (sets : Restands mid slots place (with_place out)) where
-    -- what stands there stands there after its place has left the line
+    -- what is there is there after its place has left the line
     stays : (x : Slot (Standing C)) → slot_at a.slots place ≡ Some x → slot_at mid place ≡ Some x
     stays x e = ap (λ (t : TableView (Slot (Standing C))). slot_at t place) gone ∙ e
 
@@ -223,7 +223,7 @@ module _ {C : Type 0} where
     taken_connection conn was_there was is = let x = taken in
         (x.0.standing.birth, x.0.standing.entered, shown_at a place number x.0 good x.1 x.2 ∙ ap (λ (p : Place C). Some (with_place p x.0.standing)) (sym (was x.0 (stays x.0 x.1)) ∙ is))
 
-  -- something stands at a place in line, and after it has left the line
+  -- something is at a place in line, and after it has left the line
   pub line_stands : (a : Inside C) (i place : ℕ) → AreGoodRecords a → Some place ≡ slice_get a.slots.line i → IsSome (slot_at a.slots place)
   line_stands a i place good first = let x = good.idle.are.each i place (sym first) in subst IsSome (sym x.1) refl
 
@@ -248,7 +248,7 @@ module _ {C : Type 0} where
       let same : x.number ≡ k = cc in
       sym (ap entered_in (shown_at a place k x good at_place same))
 
-  -- ---- hand over
+  -- ---- hand-off
 
   -- a guard takes over a connection that is out
   module _ (a : Inside C) (place q : ℕ) (x : Slot (Standing C)) (slots : TableView (Slot (Standing C))) (good : AreGoodRecords a)

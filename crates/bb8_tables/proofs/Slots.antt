@@ -1,26 +1,26 @@
 -- Laws of tables of places.
 use Rattle.bb8_tables.proofs.Words.{◌≡◌, ◌≢◌, ◌⊎◌, ℕ, zero, suc, ◌+◌, ◌<◌, ◌≤◌, Bool, true, false, cond, eqb, List, [], ◌∷◌, ◌++◌, length, Option, Some, None, get_or, slice_get, refl, sym, ap, ◌∙◌, inl, inr, arith, ne_eqb, eq-eqb, subst, nat_cmp, set, get_or-set_other, get_or-set_same, option_map, FinMap, insert, remove, get, get-empty, tally, one, values_at, IsLine, IsTable, IsDistinct, same_or_not, get_inserted, get_removed, same_gets}
 
--- another thing stands at a place, and nothing else has changed
+-- a place has another content, and nothing else has changed
 pub record Updates {X : Type 0} (old new : List (Option X)) (place : ℕ) (slot : Option X) : Type 0 where
   pub changed : get_or new place None ≡ slot
   pub others : (other : ℕ) → other ≢ place → get_or new other None ≡ get_or old other None
 
--- where something stands is inside
+-- a place with content is inside
 pub inside : {X : Type 0} (xs : List (Option X)) (i : ℕ) (x : X) → get_or xs i None ≡ Some x → i < length xs
 inside [] i x e = cc
 inside (y ∷ xs) zero x e = omega arith
 inside (y ∷ xs) (suc i) x e = omega (arith, inside xs i x e)
 
--- another thing stands at a place from now on
+-- a place has another content from now on
 pub set_within : {X : Type 0} (xs : List (Option X)) (place : ℕ) (slot : Option X) → place < length xs → Updates xs (set xs place slot) place slot
 set_within xs place slot within = record { changed = get_or-set_same xs place slot None within; others = λ other n. get_or-set_other xs place other slot None n }
 
--- and so where something stood
+-- and so where something was
 pub set_at : {X : Type 0} (xs : List (Option X)) (place : ℕ) (x : X) (slot : Option X) → get_or xs place None ≡ Some x → Updates xs (set xs place slot) place slot
 set_at xs place x slot e = set_within xs place slot (inside xs place x e)
 
--- what stands at an index after a change
+-- the content at an index after a change
 pub changed_cases : {X : Type 0} {old new : List (Option X)} {place : ℕ} {slot : Option X} (i : ℕ) (y : X) → Updates old new place slot → get_or new i None ≡ Some y
     → ((i ≡ place) × (slot ≡ Some y)) ⊎ ((i ≢ place) × (get_or old i None ≡ Some y))
 changed_cases {X} {old} {new} {place} {slot} i y u e = grind (arith, same_or_not i place)
@@ -32,7 +32,7 @@ module _ {X S : Type 0} (number : X → ℕ) (value : X → S) where
   held_cons : (y : X) (xs : List (Option X)) (q : ℕ) → get (values_at number value (Some y ∷ xs)) q ≡ cond (eqb q (number y)) (Some (value y)) (get (values_at number value xs) q)
   held_cons y xs q = get_inserted (values_at number value xs) (number y) (value y) q
 
-  -- what stands somewhere is held
+  -- what is somewhere is held
   held_some : (xs : List (Option X)) (i : ℕ) (x : X) → get_or xs i None ≡ Some x → (s : S) × (get (values_at number value xs) (number x) ≡ Some s)
   held_some [] i x e = cc
   held_some (None ∷ xs) zero x e = cc
@@ -43,7 +43,7 @@ module _ {X S : Type 0} (number : X → ℕ) (value : X → S) where
     | inr t ↦ (ih.0, held_cons y xs (number x) ∙ rw t.0 ih.1)
   ]
 
-  -- and what is held stands somewhere
+  -- and what is held is somewhere
   pub held_found : (xs : List (Option X)) (q : ℕ) (s : S) → get (values_at number value xs) q ≡ Some s → (i : ℕ) × (x : X) × (get_or xs i None ≡ Some x) × (number x ≡ q) × (value x ≡ s)
   held_found [] q s e = absurd (let clash : None ≡ Some s = sym (get-empty nat_cmp q) ∙ e in cc)
   held_found (None ∷ xs) q s e = let f = held_found xs q s e in (suc f.0, f.1, f.2, f.3, f.4)
@@ -64,7 +64,7 @@ module _ {X S : Type 0} (number : X → ℕ) (value : X → S) where
   pub held_at : (xs : List (Option X)) (i : ℕ) (x : X) → IsDistinct number xs → get_or xs i None ≡ Some x → get (values_at number value xs) (number x) ≡ Some (value x)
   held_at xs i x d e = grind (arith, held_some xs i x e, held_found)
 
-  -- so a map that holds what stands there, and nothing else, is what they hold
+  -- so a map that holds what is there, and nothing else, is what they hold
   held_is : (xs : List (Option X)) (m : FinMap nat_cmp S) → ((i : ℕ) (x : X) → get_or xs i None ≡ Some x → get m (number x) ≡ Some (value x)) → ((q : ℕ) → Absent xs q → get m q ≡ None)
       → values_at number value xs ≡ m
   held_is xs m each none = same_gets _ _ (λ q. go q (get (values_at number value xs) q) refl)
@@ -76,7 +76,7 @@ module _ {X S : Type 0} (number : X → ℕ) (value : X → S) where
   pub held_same : (old new : List (Option X)) → IsDistinct number old → ((i : ℕ) → get_or new i None ≡ get_or old i None) → values_at number value new ≡ values_at number value old
   held_same old new d same = held_is new _ (λ i x e. held_at old i x d (sym (same i) ∙ e)) (λ q absent. held_absent old q (λ i x e. absent i x (same i ∙ e)))
 
-  -- what places hold of which one has changed: it has one number, before and after, and no other
+  -- what places hold after one has changed: it has one number, before and after, and no other
   -- place has that
   pub held_changed : {old new : List (Option X)} {place q : ℕ} {slot : Option X} (m : FinMap nat_cmp S) → IsDistinct number old → Updates old new place slot
       → ((k : ℕ) → get m k ≡ cond (eqb k q) (option_map value slot) (get (values_at number value old) k)) → ((x : X) → slot ≡ Some x → number x ≡ q)
@@ -200,7 +200,7 @@ module _ {X K : Type 0} (number : X → ℕ) (test : X → Bool) (key leads : K 
 
 -- ---- what a change does to a table
 
--- the same stands at each place
+-- each index has the same
 pub table_kept : {X : Type 0} {number : X → ℕ} {old new : List (Option X)} {next : ℕ} → IsTable number old next → ((i : ℕ) → get_or new i None ≡ get_or old i None) → IsTable number new next
 table_kept t kept = record { distinct = λ i j x y e f. t.distinct i j x y (sym (kept i) ∙ e) (sym (kept j) ∙ f); below = λ i x e. t.below i x (sym (kept i) ∙ e) }
 

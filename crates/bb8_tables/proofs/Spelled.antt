@@ -39,13 +39,13 @@ pub absent_part : (p : ℕ) (xs ys : List ℕ) → Absent p (xs ++ ys) → Absen
 absent_part p [] ys a = a
 absent_part p (x ∷ xs) ys a = absent_part p xs ys a.1
 
--- a place that stands at an index is not absent
+-- a place at an index is not absent
 pub absent_get : (p j : ℕ) (xs : List ℕ) → Absent p xs → slice_get xs j ≡ Some p → ⊥
 absent_get p j [] a e = cc
 absent_get p zero (x ∷ xs) a e = a.0 (cc)
 absent_get p (suc j) (x ∷ xs) a e = absent_get p j xs a.1 e
 
--- ---- places that are told apart, below a bound
+-- ---- different places, below a bound
 
 abbrev pub Distinct : List ℕ → Type 0
 Distinct [] = Unit {0}
@@ -95,7 +95,7 @@ module _ (after before : ℕ → ℕ) (z : ℕ) where
   last_leads a [] l = cc
   last_leads a (x ∷ xs) l = last_leads x xs l.2
 
-  -- no place stands twice
+  -- no place is there twice
   not_again : (c y x : ℕ) (ys : List ℕ) → LinksLead after before y ys z → before x ≡ c → y ≢ c → Absent c ys → Absent x ys
   not_again c y x [] l e n a = tt
   not_again c y x (u ∷ us) l e n a =
@@ -173,7 +173,7 @@ module _ (af be af1 be1 af2 be2 : ℕ → ℕ) (z p : ℕ) (j1 : Joins af be af1
         (cc, cc);
   }
 
--- ---- a place goes, wherever it stands
+-- ---- a place goes, wherever it is
 
 module _ (af be af1 be1 af2 be2 : ℕ → ℕ) (z p : ℕ) (j1 : Joins af be af1 be1 (be p) (af p)) (j2 : Joins af1 be1 af2 be2 p p) (apart : p ≢ z)
     (back : af (be p) ≡ p) (forth : be (af p) ≡ p) where

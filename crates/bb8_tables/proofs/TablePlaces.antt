@@ -12,7 +12,7 @@ module _ {S : Type 0} where
   abbrev pub shown : List (Option (Slot S)) → FinMap nat_cmp S
   shown slots = values_at numbered (λ x. x.standing) slots
 
-  -- something else stands at a place, under the same number
+  -- a place has another content, under the same number
   abbrev pub Restands : TableView (Slot S) → TableView (Slot S) → ℕ → (S → S) → Type 0
   Restands old new place f = (x : Slot S) → slot_at old place ≡ Some x → new ≡ record old { slots = set old.slots place (Some (record x { standing = f x.standing })) }
 
@@ -20,7 +20,7 @@ module _ {S : Type 0} where
   abbrev pub Frees : TableView (Slot S) → TableView (Slot S) → ℕ → Type 0
   Frees old new place = new ≡ record { slots = set old.slots place None; line = without place old.line; births = without place old.births; free = old.free + 1 }
 
-  -- something stands there then
+  -- something is there then
   pub stands_then : (old mid : TableView (Slot S)) (place : ℕ) (f : S → S) (x : Slot S) → slot_at old place ≡ Some x → Restands old mid place f → IsSome (slot_at mid place)
   stands_then old mid place f x e sets = rw (sets x e) (subst IsSome (sym (set_at old.slots place x (Some (record x { standing = f x.standing })) e).changed) refl)
 
@@ -36,13 +36,13 @@ module _ {S : Type 0} where
   pub no_number_at : (slots : List (Option (Slot S))) (places : List ℕ) (i : ℕ) → slice_get places i ≡ None → slice_get (numbers_at numbered slots places) i ≡ None
   no_number_at slots places i e = slice_get-map (λ (k : ℕ). number_in numbered (get_or slots k None)) places i ∙ ap (option_map (λ (k : ℕ). number_in numbered (get_or slots k None))) e
 
-  -- a place where something stands
+  -- a place with content
   module _ {slots : List (Option (Slot S))} {next : ℕ} {x : Slot S} (q place : ℕ) (t : IsTable numbered slots next) (at_place : get_or slots place None ≡ Some x) (number_is : x.number ≡ q) where
     -- it is shown
     pub shown_at : get (shown slots) q ≡ Some x.standing
     shown_at = ap (get (shown slots)) (sym number_is) ∙ held_at numbered (λ y. y.standing) slots place x t.distinct at_place
 
-    -- it stands as something else
+    -- it is something else
     pub set_shown : (f : Option S → S) → shown (set slots place (Some (record x { standing = f (Some x.standing) }))) ≡ insert (shown slots) q (f (get (shown slots) q))
     set_shown f = held_set t (λ y. y.standing) at_place refl (set_at slots place x (Some (record x { standing = f (Some x.standing) })) at_place)
         ∙ ap (λ (n : ℕ). insert (shown slots) n (f (Some x.standing))) number_is ∙ ap (λ (o : Option S). insert (shown slots) q (f o)) (sym shown_at)
@@ -66,7 +66,7 @@ module _ {S : Type 0} where
     pub cleared_line : (places : List ℕ) → numbers_at numbered (set slots place None) (without place places) ≡ numbers_at numbered slots (without place places)
     cleared_line places = numbers_kept numbered slots _ place (without place places) (left_away places place) (set_at slots place x None at_place).others
 
-  -- a free place, where the next number comes to stand
+  -- a free place, for the next number
   module _ (slots : List (Option (Slot S))) (next place : ℕ) (s : S) (free : get_or slots place None ≡ None) (within : place < length slots) where
     abbrev newcomer : Slot S
     newcomer = record { number = next; standing = s }

@@ -32,13 +32,13 @@ module _ {X : Type 0} where
   past_absent xs [] a = tt
   past_absent xs (q ∷ ps) a = ((λ e. omega (arith, a.1, e)), past_absent xs ps a.4)
 
-  -- where something stands is inside
+  -- a place with content is inside
   pub stands_inside : (xs : List (Option X)) (i : ℕ) → IsSome (get_or xs i None) → i < length xs
   stands_inside [] i h = cc
   stands_inside (x ∷ xs) zero h = omega arith
   stands_inside (x ∷ xs) (suc i) h = omega (arith, stands_inside xs i h)
 
-  -- where something stands is not free
+  -- a place with content is not free
   pub stands_absent : (xs : List (Option X)) (ps : List ℕ) (p : ℕ) → AreFree xs ps → IsSome (get_or xs p None) → Absent p ps
   stands_absent xs [] p a h = tt
   stands_absent xs (q ∷ ps) p a h = ((λ e. none_stands (get_or xs q None) a.2 (subst (λ (k : ℕ). IsSome (get_or xs k None)) (sym e) h)), stands_absent xs ps p a.4 h)
@@ -70,11 +70,11 @@ module _ {X : Type 0} where
   free_told xs [] a = (tt, tt)
   free_told xs (q ∷ ps) a = let r = free_told xs ps a.4 in ((a.3, r.0), (a.1, r.1))
 
-  -- beside a place that is not free there is room for one more
+  -- beside a place that is not free there is space for one more
   pub fewer_free : (xs : List (Option X)) (ps : List ℕ) (p : ℕ) → AreFree xs ps → p < length xs → Absent p ps → length ps < length xs
   fewer_free xs ps p a within n = let r = free_told xs ps a in omega (arith, few_below (length xs) (p ∷ ps) (n, r.0) (within, r.1))
 
-  -- there is room for a place that is added, and it is free then
+  -- there is space for a place that is added, and it is free then
   pub added_fewer : (xs : List (Option X)) (ps : List ℕ) → AreFree xs ps → length ps < length xs + 1
   added_fewer xs ps a = omega (arith, few_below (length xs) ps (free_told xs ps a).0 (free_told xs ps a).1)
 
@@ -82,10 +82,10 @@ module _ {X : Type 0} where
   added_free xs ps a some = push_free (xs ++ None ∷ []) ps (length xs) (more_free xs ps a) some (omega (arith, length-append xs (None ∷ [])))
       (get_or_none xs (length xs) ∙ get_or_past xs) (past_absent xs ps a)
 
--- ---- what stands in a slot
+-- ---- the content of a slot
 
 module _ {S : Type 0} where
-  -- what stands in a slot that is read
+  -- the content of a slot that is read
   get_slot : (xs : List (Slot S)) (i : ℕ) (x : Slot S) → slice_get xs i ≡ Some x → get_or (slots_of xs) i None ≡ slot_in x
   get_slot [] i x e = cc
   get_slot (z ∷ xs) zero x e = let both : Some z ≡ Some x = e in ap slot_in (let is : z ≡ x = cc in is)
@@ -107,7 +107,7 @@ module _ {S : Type 0} where
     pub size_seen : (now : TableView (Slot S)) → view_of_table a ≡ now → length now.slots ≡ a.slots.len
     size_seen now is = ap (λ (t : TableView (Slot S)). length t.slots) (sym is) ∙ sized
 
-    -- where something stands is inside, and not the first place
+    -- a place with content is inside, and not the first place
     pub stands : (now : TableView (Slot S)) (p : ℕ) → view_of_table a ≡ now → IsSome (get_or now.slots p None) → (p < a.slots.len) × (0 < p)
     stands now p is h =
         let here : IsSome (get_or slots p None) = subst (λ (t : TableView (Slot S)). IsSome (get_or t.slots p None)) (sym is) h in (
@@ -134,7 +134,7 @@ module _ {S : Type 0} where
         few = omega (arith, good.few);
       }
 
-    -- something else stands where something stood
+    -- a content takes the place of another
     module _ (now : TableView (Slot S)) (is : view_of_table a ≡ now) (p : ℕ) (h : IsSome (get_or now.slots p None)) where
       pub stood_absent : Absent p a.free.items
       stood_absent = stands_absent slots a.free.items p good.free (subst (λ (t : TableView (Slot S)). IsSome (get_or t.slots p None)) (sym is) h)
@@ -186,7 +186,7 @@ module _ {S : Type 0} where
           (set_free slots a.free.items p (slot_in y) good.free (stood_absent now is p h)) (stands now p is h).1 (omega (arith, length-set slots p (slot_in y)))
           (get_or-set_same slots p (slot_in y) None within ∙ none) (stood_absent now is p h))) room
 
-    -- one more place, where nothing stands
+    -- one more place, without content
     pub added_room : a.free.len < a.slots.len + 1
     added_room = omega (arith, added_fewer slots a.free.items good.free, sized, a.free.ok.0)
 

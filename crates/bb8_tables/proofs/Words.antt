@@ -33,7 +33,7 @@ pub use Rattle.bb8_tables.specs.Reaps.{after_reaped, after_reap, AreFirst, beyon
 pub use Rattle.std.proofs.lemmas.Option.{slice_get-map, slice_get_past, slice_get_read, slice_get_within}
 pub use Rattle.std.proofs.lemmas.Bool.{leb-false, lt-leb, cases_lt}
 pub use Rattle.bb8_tables.specs.declared.records.reaps.Age.TheVariants.{Young, Out, Aged}
-pub use Rattle.bb8_tables.specs.Lent.{Lent, AddsLent, lends, searches}
+pub use Rattle.bb8_tables.specs.AccessCount.{AccessCount, AddsReads, counts_read, counts_search}
 pub use Rattle.std.proofs.Math.Seq.{map-set_same}
 pub use Rattle.std.proofs.lemmas.Bool.Decides.{eqb_tells}
 pub use Rattle.std.specs.declared.alloc.AllocError.{AllocError}

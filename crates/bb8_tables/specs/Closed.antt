@@ -9,7 +9,7 @@ use Rattle.bb8_types.specs.declared.standing.Standing.{Standing}
 use Rattle.bb8_tables.specs.declared.closed.Closed.{Closed}
 
 module _ {X : Type 0} where
-  -- the buffer with one more item at the back, if there is room
+  -- the buffer with one more item at the back, if there is space
   abbrev pub offered : X → Buffer X → Buffer X
   offered x b = cond (ltb (length b.items) b.capacity) (buffer (b.items ++ x ∷ []) b.capacity) b
 

@@ -24,22 +24,22 @@ module _ {C : Type 0} where
     pub listed : offered ≡ offered_all (closed_of (k ∷ []) old.places) list
 
   -- Whether these idle connections ended, one after another, each because it passed a test; they
-  -- were offered to a list, and `told` is their count.
-  pub record Ends (test : Option (Standing C) → Bool) (old : RecordsView C) (ks : List ℕ) (new : RecordsView C) (told : ℕ) (list offered : Buffer (Closed C)) : Type 0 where
+  -- were offered to a list, and `outcome` is their count.
+  pub record Ends (test : Option (Standing C) → Bool) (old : RecordsView C) (ks : List ℕ) (new : RecordsView C) (outcome : ℕ) (list offered : Buffer (Closed C)) : Type 0 where
     pub each : AreReaped test ks old
     pub state : new ≡ after_reap ks old
-    pub closed : told ≡ length ks
-    pub conns : new.conns + told ≡ old.conns
-    pub idle : length new.idle + told ≡ length old.idle
+    pub closed : outcome ≡ length ks
+    pub conns : new.conns + outcome ≡ old.conns
+    pub idle : length new.idle + outcome ≡ length old.idle
     pub listed : offered ≡ offered_all (closed_of ks old.places) list
 
   -- Whether those that are idle too long ended, from the front of the queue on, until none was left
   -- or the most allowed had ended.
-  pub record EndsIdle (config : Settings) (now : ℕ) (old : RecordsView C) (ks : List ℕ) (new : RecordsView C) (told : ℕ) (list offered : Buffer (Closed C)) : Type 0 where
+  pub record EndsIdle (config : Settings) (now : ℕ) (old : RecordsView C) (ks : List ℕ) (new : RecordsView C) (outcome : ℕ) (list offered : Buffer (Closed C)) : Type 0 where
     pub first : AreFirst (idles_out config now) ks old
-    pub ends : Ends (idles_out config now) old ks new told list offered
-    pub few : told ≤ beyond config old
-    pub all : (told ≡ beyond config old) ⊎ ((k : ℕ) → idles_out config now (get new.places k) ≡ false)
+    pub ends : Ends (idles_out config now) old ks new outcome list offered
+    pub few : outcome ≤ beyond config old
+    pub all : (outcome ≡ beyond config old) ⊎ ((k : ℕ) → idles_out config now (get new.places k) ≡ false)
 
   -- whether `next` is the index after this one in the order of births
   abbrev pub IsNext : TableView (Slot (Standing C)) → ℕ → Option ℕ → Type 0

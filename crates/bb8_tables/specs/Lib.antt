@@ -1,6 +1,6 @@
 pub mod Holders
 pub mod Keys
-pub mod Lent
+pub mod AccessCount
 pub mod Views
 pub mod Machine
 pub mod Reaps

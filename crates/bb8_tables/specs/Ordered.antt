@@ -13,7 +13,7 @@ pub record Ordered : Type 0 where
 abbrev pub ordered_code : Coded Ordered
 ordered_code = code_by (ℕ × List ℕ) (coded× coded_ℕ (coded_list coded_ℕ)) (λ t. (t.size, t.places)) (λ p. record { size = p.0; places = p.1 }) (λ _. refl)
 
--- the most indexes: as many as links of 32 bits can tell apart
+-- the most indexes: as many as links of 32 bits can distinguish
 abbrev pub most_places : ℕ
 most_places = 4294967296
 

@@ -36,13 +36,13 @@ module _ {C : Type 0} where
   -- A reap. First all that live too long end. Then those that are idle too long end, from the front
   -- of the queue on, until none is left or as many have ended as there were beyond min_idle. The
   -- result has the count for each reason.
-  pub record Reaps (config : Settings) (now : ℕ) (old : RecordsView C) (js ks : List ℕ) (new : RecordsView C) (told : Reaped) : Type 0 where
+  pub record Reaps (config : Settings) (now : ℕ) (old : RecordsView C) (js ks : List ℕ) (new : RecordsView C) (outcome : Reaped) : Type 0 where
     pub aged : AreReaped (lives_out config now) js old
     pub none_aged : (k : ℕ) → lives_out config now (get (after_reap js old).places k) ≡ false
     pub first : AreFirst (idles_out config now) ks (after_reap js old)
     pub few : length ks ≤ beyond config (after_reap js old)
     pub all : (length ks ≡ beyond config (after_reap js old)) ⊎ ((k : ℕ) → idles_out config now (get (after_reap ks (after_reap js old)).places k) ≡ false)
     pub state : new ≡ after_reap ks (after_reap js old)
-    pub closed : told.closed ≡ length js + length ks
-    pub by_idle : told.by_idle ≡ length ks
-    pub by_life : told.by_life ≡ length js
+    pub closed : outcome.closed ≡ length js + length ks
+    pub by_idle : outcome.by_idle ≡ length ks
+    pub by_life : outcome.by_life ≡ length js

@@ -13,14 +13,14 @@ use Rattle.bb8_tables.specs.Views.{RecordsView, GetsView}
 use Rattle.bb8_tables.specs.Slots.{values_at, IsLine, IsTable, ArePlaces, IsOrder, numbers_at}
 use Rattle.bb8_types.specs.Bounds.{most_records}
 
--- the counts of records, and the room for them
+-- the counts of records, and the memory for them
 pub record AreSized (free unclaimed_room conns approved peak : ℕ) : Type 0 where
   pub peak_holds : conns + approved ≤ peak
   pub peak_few : peak ≤ most_records
   pub room_holds : peak ≤ conns + approved + free
   pub unclaimed_room_holds : peak ≤ unclaimed_room
 
--- the counts of gets, and the room for them
+-- the counts of gets, and the memory for them
 pub record AreGetsSized (places free alive peak next : ℕ) : Type 0 where
   pub places_are : places ≡ alive
   pub peak_holds : alive ≤ peak

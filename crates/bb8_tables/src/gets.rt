@@ -9,10 +9,10 @@ ghost use Rattle.bb8_tables.specs.Machine as machine;
 ghost use Rattle.bb8_tables.specs.Keys.{notified_of};
 ghost use Rattle.bb8_tables.specs.Views.{no_gets};
 ghost use Rattle.bb8_types.specs.Bounds.{end_of_numbers};
-ghost use Rattle.bb8_tables.specs.Lent.{AddsLent};
+ghost use Rattle.bb8_tables.specs.AccessCount.{AddsReads};
 
 use crate::keys::GetKey;
-use crate::table::{Lendings, Slot, Table};
+use crate::table::{AccessCounter, Slot, Table};
 use bb8_types::bounds::END_OF_NUMBERS;
 use bb8_types::standing::{GetPlace, Getting};
 use std::alloc::{AllocError, Global};
@@ -146,7 +146,7 @@ impl Gets {
 
     /// Allocates for a higher peak. A wait needs no memory beyond this.
     #[cold]
-    fn make_room(&mut self) -> Result<(), AllocError>
+    fn reserve_for(&mut self) -> Result<(), AllocError>
         requires number { self.old.next < end_of_numbers }
         requires full { self.old.alive ≡ self.old.peak }
         ensures ok { OnOk result (self.new ≡ record self.old { peak = self.old.peak + 1 }) }
@@ -157,19 +157,19 @@ impl Gets {
         Ok(())
     }
 
-    /// Makes sure that there is room for one more get. Returns false if memory is refused.
+    /// Reserves memory for one more get. Returns false if it is refused.
     #[inline]
-    pub fn make_room_for_one(&mut self) -> bool
+    pub fn reserve_one(&mut self) -> bool
         requires { self.old.next < end_of_numbers }
         ensures made { result ≡ true → self.new ≡ record
             self.old { peak = max self.old.peak (self.old.alive + 1) } }
         ensures refused { result ≡ false → (self.old.alive ≡ self.old.peak)
             × (self.new ≡ self.old) }
     {
-        self.alive < self.peak || self.make_room().is_ok()
+        self.alive < self.peak || self.reserve_for().is_ok()
     }
 
-    /// Adds a get with the next number. There must be room.
+    /// Adds a get with the next number. Memory must be reserved.
     fn bear(&mut self) -> GetKey
         requires room { self.old.alive < self.old.peak }
         requires number { self.old.next < end_of_numbers }
@@ -197,15 +197,15 @@ impl Gets {
         self.next
     }
 
-    /// Adds a get with the next number that holds this connection at once. There must be room.
+    /// Adds a get with the next number that holds this connection at once. Memory must be reserved.
     #[inline]
-    pub fn bear_holding(&mut self, held: u64, lendings: &mut Lendings) -> GetKey
+    pub fn bear_holding(&mut self, held: u64, accesses: &mut AccessCounter) -> GetKey
         requires room { self.old.alive < self.old.peak }
         requires number { self.old.next < end_of_numbers }
         ensures key { result.number ≡ self.old.next }
         ensures state { self.new ≡ machine.after_turn (Holding held) self.old.next
             (machine.after_begin self.old) }
-        ensures examined { AddsLent 1 0 lendings.old lendings.new }
+        ensures examined { AddsReads 1 0 accesses.old accesses.new }
     {
         let number = self.next;
         let place = self.slots.insert(Slot {
@@ -215,21 +215,22 @@ impl Gets {
                 first_wait: None,
             },
         });
-        let _ = self.slots.turn(place, GetPlace::Holding(held), lendings);
+        let _ = self.slots.turn(place, GetPlace::Holding(held), accesses);
         self.next += 1;
         self.alive += 1;
         GetKey { number, place }
     }
 
-    /// Adds a get with the next number that waits at once, since `now`. There must be room.
+    /// Adds a get with the next number that waits at once, since `now`. Memory must be reserved.
+    // Saves 8 instructions of a pair.
     #[inline(always)]
-    pub fn bear_waiting(&mut self, now: u64, lendings: &mut Lendings) -> GetKey
+    pub fn bear_waiting(&mut self, now: u64, accesses: &mut AccessCounter) -> GetKey
         requires room { self.old.alive < self.old.peak }
         requires number { self.old.next < end_of_numbers }
         ensures key { result.number ≡ self.old.next }
         ensures state { self.new ≡ machine.after_wait now self.old.next
             (machine.after_begin self.old) }
-        ensures examined { AddsLent 1 0 lendings.old lendings.new }
+        ensures examined { AddsReads 1 0 accesses.old accesses.new }
     {
         let number = self.next;
         let place = self.slots.insert(Slot {
@@ -239,7 +240,7 @@ impl Gets {
                 first_wait: None,
             },
         });
-        self.slots.wait(place, now, lendings);
+        self.slots.wait(place, now, accesses);
         self.slots.line_up(place);
         self.next += 1;
         self.alive += 1;
@@ -248,7 +249,7 @@ impl Gets {
 
     /// Returns whether a get can begin without an allocation: a number is left, and more gets were
     /// alive before.
-    pub fn has_room(&self) -> bool
+    pub fn has_capacity(&self) -> bool
         ensures number { result ≡ true → self.now.next < end_of_numbers }
         ensures room { result ≡ true → self.now.alive < self.now.peak }
         ensures none { result ≡ false → (end_of_numbers ≤ self.now.next)
@@ -257,7 +258,7 @@ impl Gets {
         self.next < END_OF_NUMBERS && self.alive < self.peak
     }
 
-    /// Returns the next number, for a get that begins and ends at once. There must be room.
+    /// Returns the next number, for a get that begins and ends at once. Memory must be reserved.
     pub fn begin_and_end(&mut self) -> u64
         requires room { self.old.alive < self.old.peak }
         requires number { self.old.next < end_of_numbers }
@@ -279,7 +280,7 @@ impl Gets {
             × (self.new ≡ machine.after_begin self.old)) }
         ensures none { IfNone result ((self.old.alive ≡ self.old.peak) × (self.new ≡ self.old)) }
     {
-        if !self.make_room_for_one() {
+        if !self.reserve_one() {
             return None;
         }
         Some(self.bear())
@@ -287,17 +288,17 @@ impl Gets {
 
     /// Makes a get wait that is not an unnotified waiter. It waits since `now` if it did not wait
     /// before.
-    pub fn wait(&mut self, g: GetKey, now: u64, lendings: &mut Lendings)
+    pub fn wait(&mut self, g: GetKey, now: u64, accesses: &mut AccessCounter)
         requires stands { (x : Getting) × (map.get self.old.places g.number ≡ Some x)
             × (places.is_unnotified x.place ≡ false) }
         ensures state { self.new ≡ machine.after_wait now g.number self.old }
-        ensures examined { AddsLent 1 1 lendings.old lendings.new }
-        ensures counted { min (lendings.old.lent + 1) end_of_numbers ≤ lendings.new.lent }
+        ensures examined { AddsReads 1 1 accesses.old accesses.new }
+        ensures counted { min (accesses.old.reads + 1) end_of_numbers ≤ accesses.new.reads }
     {
-        match self.slots.locate(g.number, g.place, lendings) {
+        match self.slots.locate(g.number, g.place, accesses) {
             None => {}
             Some(place) => {
-                self.slots.wait(place, now, lendings);
+                self.slots.wait(place, now, accesses);
                 self.slots.line_up(place);
             }
         }
@@ -305,35 +306,36 @@ impl Gets {
 
     /// Changes the state of a get that is in no queue: it holds a connection now, or is active
     /// again.
-    pub fn turn(&mut self, g: GetKey, place: GetPlace, lendings: &mut Lendings)
+    pub fn turn(&mut self, g: GetKey, place: GetPlace, accesses: &mut AccessCounter)
         requires off { places.is_unnotified place ≡ false }
         requires stands { (x : Getting) × (map.get self.old.places g.number ≡ Some x)
             × (places.is_unnotified x.place ≡ false) }
         ensures state { self.new ≡ machine.after_turn place g.number self.old }
-        ensures examined { AddsLent 1 1 lendings.old lendings.new }
-        ensures counted { min (lendings.old.lent + 1) end_of_numbers ≤ lendings.new.lent }
+        ensures examined { AddsReads 1 1 accesses.old accesses.new }
+        ensures counted { min (accesses.old.reads + 1) end_of_numbers ≤ accesses.new.reads }
     {
-        match self.slots.locate(g.number, g.place, lendings) {
+        match self.slots.locate(g.number, g.place, accesses) {
             None => {}
             Some(at) => {
-                let _ = self.slots.turn(at, place, lendings);
+                let _ = self.slots.turn(at, place, accesses);
             }
         }
     }
 
     /// Notifies the longest waiter that was not notified, and returns it.
+    // Saves 14 instructions of a pair.
     #[inline(always)]
-    pub fn notify(&mut self, lendings: &mut Lendings) -> Option<GetKey>
+    pub fn notify(&mut self, accesses: &mut AccessCounter) -> Option<GetKey>
         ensures value { notified_of result ≡ slice_get self.old.waiting 0 }
         ensures state { self.new ≡ machine.after_notice (notified_of result) self.old }
-        ensures examined { AddsLent (numbered.one (is_some result)) 0 lendings.old lendings.new }
-        ensures counted { min (lendings.old.lent + numbered.one (is_some result)) end_of_numbers
-            ≤ lendings.new.lent }
+        ensures examined { AddsReads (numbered.one (is_some result)) 0 accesses.old accesses.new }
+        ensures counted { min (accesses.old.reads + numbered.one (is_some result)) end_of_numbers
+            ≤ accesses.new.reads }
     {
         match self.slots.first() {
             None => None,
             Some(place) => {
-                let number = self.slots.turn(place, GetPlace::Waiting(true), lendings);
+                let number = self.slots.turn(place, GetPlace::Waiting(true), accesses);
                 self.slots.leave(place);
                 Some(GetKey { number, place })
             }
@@ -343,22 +345,22 @@ impl Gets {
     /// Makes a get active again that holds a connection, and returns that connection's number.
     /// Returns None and changes nothing if it holds none. Looks it up once.
     #[inline]
-    pub fn let_go(&mut self, g: GetKey, lendings: &mut Lendings) -> Option<u64>
+    pub fn let_go(&mut self, g: GetKey, accesses: &mut AccessCounter) -> Option<u64>
         ensures some { IfSome result (λ k.
             (places.holds (map.get self.old.places g.number) ≡ Some k)
             × (self.new ≡ machine.after_turn Active g.number self.old)) }
         ensures none { IfNone result ((places.holds (map.get self.old.places g.number) ≡ None)
             × (self.new ≡ self.old)) }
-        ensures examined { AddsLent 2 1 lendings.old lendings.new }
-        ensures counted { IfSome result (λ k. min (lendings.old.lent + 1) end_of_numbers
-            ≤ lendings.new.lent) }
+        ensures examined { AddsReads 2 1 accesses.old accesses.new }
+        ensures counted { IfSome result (λ k. min (accesses.old.reads + 1) end_of_numbers
+            ≤ accesses.new.reads) }
     {
-        match self.slots.locate(g.number, g.place, lendings) {
+        match self.slots.locate(g.number, g.place, accesses) {
             None => None,
-            Some(place) => match self.slots.at(place, lendings).standing.place {
+            Some(place) => match self.slots.at(place, accesses).standing.place {
                 GetPlace::Active | GetPlace::Waiting(_) => None,
                 GetPlace::Holding(held) => {
-                    let _ = self.slots.turn(place, GetPlace::Active, lendings);
+                    let _ = self.slots.turn(place, GetPlace::Active, accesses);
                     Some(held)
                 }
             },
@@ -367,20 +369,21 @@ impl Gets {
 
     /// Ends a get that is alive and holds nothing, and returns its last state. Returns None and
     /// changes nothing if there is no such get. Looks it up once.
+    // Saves 32 instructions of a cancelled get.
     #[inline(always)]
-    pub fn end(&mut self, g: GetKey, lendings: &mut Lendings) -> Option<Getting>
+    pub fn end(&mut self, g: GetKey, accesses: &mut AccessCounter) -> Option<Getting>
         ensures some { IfSome result (λ x. (map.get self.old.places g.number ≡ Some x)
             × (places.is_trying x.place ≡ true)
             × (self.new ≡ machine.after_get_end g.number self.old)) }
         ensures none { IfNone result ((places.gets_stand places.is_trying
             (map.get self.old.places g.number) ≡ false) × (self.new ≡ self.old)) }
         ensures numbers { self.old.next ≤ end_of_numbers }
-        ensures examined { AddsLent 1 1 lendings.old lendings.new }
+        ensures examined { AddsReads 1 1 accesses.old accesses.new }
     {
-        match self.slots.locate(g.number, g.place, lendings) {
+        match self.slots.locate(g.number, g.place, accesses) {
             None => None,
             Some(place) => {
-                let getting = self.slots.at(place, lendings).standing;
+                let getting = self.slots.at(place, accesses).standing;
                 if !is_trying(Some(getting)) {
                     return None;
                 }
@@ -392,15 +395,16 @@ impl Gets {
     }
 
     /// Ends a get that is alive and in no queue.
+    // Saves 11 instructions of a waiting get.
     #[inline(always)]
-    pub fn finish(&mut self, g: GetKey, lendings: &mut Lendings)
+    pub fn finish(&mut self, g: GetKey, accesses: &mut AccessCounter)
         requires { (x : Getting) × (map.get self.old.places g.number ≡ Some x)
             × (places.is_unnotified x.place ≡ false) }
         ensures state { self.new ≡ machine.after_get_end g.number self.old }
         ensures numbers { self.old.next ≤ end_of_numbers }
-        ensures examined { AddsLent 0 1 lendings.old lendings.new }
+        ensures examined { AddsReads 0 1 accesses.old accesses.new }
     {
-        match self.slots.locate(g.number, g.place, lendings) {
+        match self.slots.locate(g.number, g.place, accesses) {
             None => {}
             Some(place) => {
                 let _ = self.slots.remove(place);
@@ -411,11 +415,12 @@ impl Gets {
 
     /// Ends a get that holds a connection. Returns that connection's number and the moment of the
     /// get's first wait. Returns None and changes nothing if it holds none. Looks it up once.
+    // Saves 30 instructions of a pair.
     #[inline(always)]
     pub fn finish_holding(
         &mut self,
         g: GetKey,
-        lendings: &mut Lendings,
+        accesses: &mut AccessCounter,
     ) -> Option<(u64, Option<u64>)>
         ensures some { IfSome result (λ r. (places.holds (map.get self.old.places g.number) ≡ Some r.0)
             × (r.1 ≡ places.first_wait_of (map.get self.old.places g.number))
@@ -423,12 +428,12 @@ impl Gets {
         ensures none { IfNone result ((places.holds (map.get self.old.places g.number) ≡ None)
             × (self.new ≡ self.old)) }
         ensures numbers { self.old.next ≤ end_of_numbers }
-        ensures examined { AddsLent 1 1 lendings.old lendings.new }
+        ensures examined { AddsReads 1 1 accesses.old accesses.new }
     {
-        match self.slots.locate(g.number, g.place, lendings) {
+        match self.slots.locate(g.number, g.place, accesses) {
             None => None,
             Some(place) => {
-                let getting = self.slots.at(place, lendings).standing;
+                let getting = self.slots.at(place, accesses).standing;
                 match getting.place {
                     GetPlace::Active | GetPlace::Waiting(_) => None,
                     GetPlace::Holding(held) => {
@@ -442,26 +447,27 @@ impl Gets {
     }
 
     /// Returns the key of a get, None if it is not alive.
-    pub fn find(&self, number: u64, lendings: &mut Lendings) -> Option<GetKey>
+    pub fn find(&self, number: u64, accesses: &mut AccessCounter) -> Option<GetKey>
         ensures some { IfSome result (λ g. (g.number ≡ number)
             × IsSome (map.get self.now.places number)) }
         ensures none { IfNone result (map.get self.now.places number ≡ None) }
-        ensures examined { AddsLent 0 1 lendings.old lendings.new }
+        ensures examined { AddsReads 0 1 accesses.old accesses.new }
     {
-        match self.slots.locate(number, 0, lendings) {
+        match self.slots.locate(number, 0, accesses) {
             None => None,
             Some(place) => Some(GetKey { number, place }),
         }
     }
 
     /// Returns the state of a get, None if it is not alive.
+    // Saves 23 instructions of a waiting get.
     #[inline(always)]
-    pub fn getting(&self, g: GetKey, lendings: &mut Lendings) -> Option<Getting>
+    pub fn getting(&self, g: GetKey, accesses: &mut AccessCounter) -> Option<Getting>
         ensures value { result ≡ map.get self.now.places g.number }
-        ensures examined { AddsLent 1 1 lendings.old lendings.new }
-        ensures counted { min (lendings.old.lent + 1) end_of_numbers ≤ lendings.new.lent }
+        ensures examined { AddsReads 1 1 accesses.old accesses.new }
+        ensures counted { min (accesses.old.reads + 1) end_of_numbers ≤ accesses.new.reads }
     {
-        match self.slots.slot(g.number, g.place, lendings) {
+        match self.slots.slot(g.number, g.place, accesses) {
             None => None,
             Some(slot) => Some(slot.standing),
         }

@@ -9,7 +9,8 @@ ghost use Rattle.bb8_types.specs.declared.standing.Place.TheVariants.{Unclaimed,
 ghost use Rattle.circular_buffer.specs.Buffer.{buffer};
 ghost use Rattle.bb8_types.specs.declared.standing.Standing.{Standing};
 ghost use Rattle.bb8_types.specs.Bounds.{end_of_numbers, most_records};
-ghost use Rattle.bb8_tables.specs.Lent.{AddsLent};
+ghost use Rattle.bb8_tables.specs.AccessCount.{AddsReads};
+ghost use Rattle.bb8_tables.specs.Reaps.{after_reaped};
 ghost use Rattle.bb8_tables.specs.Closed.{offered_all, closed_in, closed_of};
 ghost use Rattle.bb8_tables.specs.Holders as holders;
 ghost use Rattle.bb8_tables.specs.TableView.{slot_at};
@@ -20,7 +21,7 @@ mod reaps;
 use crate::closed::{Closed, ClosedList};
 use crate::keys::Key;
 use crate::ring::Ring;
-use crate::table::{Lendings, Slot, Table, UncountedAccess};
+use crate::table::{AccessCounter, Slot, Table, UncountedAccess};
 use bb8_types::api::QueueStrategy;
 use bb8_types::bounds::END_OF_NUMBERS;
 use bb8_types::grants::Grant;
@@ -62,6 +63,15 @@ fn is_claimed<C>(place: &Place<C>) -> bool
     match place {
         Place::Claimed => true,
         Place::Unclaimed | Place::Idle(_) | Place::Held(_) | Place::Guarded => false,
+    }
+}
+
+fn is_idle<C>(place: &Place<C>) -> bool
+    ensures { result ≡ places.is_idle place.now }
+{
+    match place {
+        Place::Idle(_) => true,
+        Place::Unclaimed | Place::Claimed | Place::Held(_) | Place::Guarded => false,
     }
 }
 
@@ -193,7 +203,7 @@ impl<C: Drop> Records<C> {
         (records, asking)
     }
 
-    /// Returns a list without room. It allocates nothing.
+    /// Returns a list without capacity. It allocates nothing.
     pub fn no_list(&self) -> ClosedList<C>
         ensures { result ≡ buffer [] 0 }
     {
@@ -201,19 +211,19 @@ impl<C: Drop> Records<C> {
     }
 
     /// Claims the unclaimed approval with the lowest number.
-    pub fn claim(&mut self, lendings: &mut Lendings) -> Option<Key>
+    pub fn claim(&mut self, accesses: &mut AccessCounter) -> Option<Key>
         ensures some { IfSome result (λ key. (slice_get self.old.unclaimed 0 ≡ Some key.number)
             × (self.new ≡ machine.after_claim key.number self.old)) }
         ensures none { IfNone result ((slice_get self.old.unclaimed 0 ≡ None)
             × (self.new ≡ self.old)) }
-        ensures examined { AddsLent (numbered.one (is_some result)) 0 lendings.old lendings.new }
-        ensures counted { min (lendings.old.lent + numbered.one (is_some result)) end_of_numbers
-            ≤ lendings.new.lent }
+        ensures examined { AddsReads (numbered.one (is_some result)) 0 accesses.old accesses.new }
+        ensures counted { min (accesses.old.reads + numbered.one (is_some result)) end_of_numbers
+            ≤ accesses.new.reads }
     {
         match self.unclaimed.pop() {
             None => None,
             Some(key) => {
-                let _ = self.slots.put(key.place, Place::Claimed, lendings);
+                let _ = self.slots.put(key.place, Place::Claimed, accesses);
                 Some(key)
             }
         }
@@ -221,27 +231,32 @@ impl<C: Drop> Records<C> {
 
     /// Returns when the first idle connection became idle. Reads one entry.
     #[inline]
-    pub fn first_entered(&self, strategy: QueueStrategy, lendings: &mut Lendings) -> Option<u64>
+    pub fn first_entered(
+        &self,
+        strategy: QueueStrategy,
+        accesses: &mut AccessCounter,
+    ) -> Option<u64>
         ensures some { IfSome result (λ n. (k : ℕ) → places.first_of strategy self.now.idle
             ≡ Some k → n ≡ places.entered_in (map.get self.now.places k)) }
         ensures none { IfNone result (places.first_of strategy self.now.idle ≡ None) }
-        ensures examined { AddsLent (numbered.one (is_some result)) 0 lendings.old lendings.new }
-        ensures counted { min (lendings.old.lent + numbered.one (is_some result)) end_of_numbers
-            ≤ lendings.new.lent }
+        ensures examined { AddsReads (numbered.one (is_some result)) 0 accesses.old accesses.new }
+        ensures counted { min (accesses.old.reads + numbered.one (is_some result)) end_of_numbers
+            ≤ accesses.new.reads }
     {
         match self.slots.first_by(strategy) {
             None => None,
-            Some(place) => Some(self.slots.at(place, lendings).standing.entered),
+            Some(place) => Some(self.slots.at(place, accesses).standing.entered),
         }
     }
 
     /// Checks out the first idle connection to this holder.
+    // Saves 42 instructions of a pair.
     #[inline(always)]
     pub fn take(
         &mut self,
         strategy: QueueStrategy,
         holder: Holder,
-        lendings: &mut Lendings,
+        accesses: &mut AccessCounter,
     ) -> Option<(Key, C)>
         ensures some { IfSome result (λ r. (places.first_of strategy self.old.idle ≡ Some
             r.0.number) × ((birth entered : ℕ)
@@ -250,16 +265,16 @@ impl<C: Drop> Records<C> {
             × (self.new ≡ machine.after_take (places.place_with holder) r.0.number
             self.old)) }
         ensures none { IfNone result ((places.first_of strategy self.old.idle ≡ None)
-            × (self.new ≡ self.old) × (lendings.new ≡ lendings.old)) }
-        ensures examined { AddsLent (numbered.one (is_some result)) 0 lendings.old lendings.new }
-        ensures counted { min (lendings.old.lent + numbered.one (is_some result)) end_of_numbers
-            ≤ lendings.new.lent }
+            × (self.new ≡ self.old) × (accesses.new ≡ accesses.old)) }
+        ensures examined { AddsReads (numbered.one (is_some result)) 0 accesses.old accesses.new }
+        ensures counted { min (accesses.old.reads + numbered.one (is_some result)) end_of_numbers
+            ≤ accesses.new.reads }
     {
         match self.slots.first_by(strategy) {
             None => None,
             Some(place) => {
                 self.slots.leave(place);
-                let (number, was) = self.slots.put(place, place_of(holder), lendings);
+                let (number, was) = self.slots.put(place, place_of(holder), accesses);
                 match connection_of(was) {
                     None => None,
                     Some(conn) => Some((Key { number, place }, conn)),
@@ -270,18 +285,18 @@ impl<C: Drop> Records<C> {
 
     /// Changes the holder of a checked-out connection to a guard, and returns its key with a fresh
     /// hint.
-    pub fn hand_over(&mut self, k: Key, lendings: &mut Lendings) -> Key
+    pub fn hand_over(&mut self, k: Key, accesses: &mut AccessCounter) -> Key
         requires out { (s : Standing C) × (map.get self.old.places k.number ≡ Some s)
             × (places.is_out s.place ≡ true) }
         ensures key { result.number ≡ k.number }
         ensures state { self.new ≡ machine.after_handover k.number self.old }
-        ensures examined { AddsLent 1 1 lendings.old lendings.new }
-        ensures counted { min (lendings.old.lent + 1) end_of_numbers ≤ lendings.new.lent }
+        ensures examined { AddsReads 1 1 accesses.old accesses.new }
+        ensures counted { min (accesses.old.reads + 1) end_of_numbers ≤ accesses.new.reads }
     {
-        match self.slots.locate(k.number, k.place, lendings) {
+        match self.slots.locate(k.number, k.place, accesses) {
             None => k,
             Some(place) => {
-                let _ = self.slots.put(place, Place::Guarded, lendings);
+                let _ = self.slots.put(place, Place::Guarded, accesses);
                 Key {
                     number: k.number,
                     place,
@@ -293,7 +308,13 @@ impl<C: Drop> Records<C> {
     /// Adds the connection of a claimed approval as idle, born now. Returns the connection and
     /// changes nothing if the number is not that of a claimed approval. No birth and no entry may
     /// be later than `now`. Looks the approval up once.
-    pub fn enter(&mut self, k: Key, conn: C, now: u64, lendings: &mut Lendings) -> Result<(), C>
+    pub fn enter(
+        &mut self,
+        k: Key,
+        conn: C,
+        now: u64,
+        accesses: &mut AccessCounter,
+    ) -> Result<(), C>
         requires { NoneAfter now self.old }
         ensures ok { IfOk result (λ u. (places.stands places.is_claimed
             (map.get self.old.places k.number) ≡ true)
@@ -302,14 +323,14 @@ impl<C: Drop> Records<C> {
         ensures unfit { IfErr result (λ c. (c ≡ conn) × (self.new ≡ self.old)
             × (places.stands places.is_claimed (map.get self.old.places k.number) ≡ false)) }
         ensures numbers { self.old.next ≤ end_of_numbers }
-        ensures examined { AddsLent 2 1 lendings.old lendings.new }
-        ensures counted { IfOk result (λ u. min (lendings.old.lent + 1) end_of_numbers
-            ≤ lendings.new.lent) }
+        ensures examined { AddsReads 2 1 accesses.old accesses.new }
+        ensures counted { IfOk result (λ u. min (accesses.old.reads + 1) end_of_numbers
+            ≤ accesses.new.reads) }
     {
-        match self.slots.locate(k.number, k.place, lendings) {
+        match self.slots.locate(k.number, k.place, accesses) {
             None => Err(conn),
             Some(place) => {
-                if !is_claimed(&self.slots.at(place, lendings).standing.place) {
+                if !is_claimed(&self.slots.at(place, accesses).standing.place) {
                     return Err(conn);
                 }
                 let idle = Standing {
@@ -317,7 +338,7 @@ impl<C: Drop> Records<C> {
                     birth: now,
                     entered: now,
                 };
-                let _ = self.slots.replace(place, idle, lendings);
+                let _ = self.slots.replace(place, idle, accesses);
                 self.slots.line_up(place);
                 self.slots.add_birth(place);
                 self.conns += 1;
@@ -328,10 +349,11 @@ impl<C: Drop> Records<C> {
     }
 
     /// Makes a checked-out connection idle again; it keeps its birth. Returns it instead, with
-    /// whether it is older than `greatest_age`, and changes nothing, if it is broken or older than
+    /// whether it is older than `max_age`, and changes nothing, if it is broken or older than
     /// that, or the pool has ended. Returns `Err` with the connection and changes nothing if it is
     /// not checked out by this holder. No birth and no entry may be later than `now`. Looks the
     /// connection up once.
+    // Saves 43 instructions of a pair.
     #[inline(always)]
     pub fn put_back(
         &mut self,
@@ -340,33 +362,33 @@ impl<C: Drop> Records<C> {
         holder: Holder,
         broken: bool,
         ended: bool,
-        greatest_age: u64,
+        max_age: u64,
         now: u64,
-        lendings: &mut Lendings,
+        accesses: &mut AccessCounter,
     ) -> Result<Result<(), (C, bool)>, C>
         requires { NoneAfter now self.old }
         ensures held { IfOk result (λ r. places.stands (holders.is_with holder)
             (map.get self.old.places k.number) ≡ true) }
         ensures ok { IfOk result (λ r. IfOk r (λ u. ((broken || (machine.is_older
-            greatest_age now k.number self.old || ended)) ≡ false)
+            max_age now k.number self.old || ended)) ≡ false)
             × (self.new ≡ machine.after_return k.number conn now self.old))) }
         ensures err { IfOk result (λ r. IfErr r (λ x. (x.0 ≡ conn)
-            × (x.1 ≡ machine.is_older greatest_age now k.number self.old)
+            × (x.1 ≡ machine.is_older max_age now k.number self.old)
             × ((broken || (x.1 || ended)) ≡ true) × (self.new ≡ self.old))) }
         ensures unfit { IfErr result (λ c. (c ≡ conn) × (self.new ≡ self.old)
             × (places.stands (holders.is_with holder) (map.get self.old.places k.number) ≡ false)) }
         ensures numbers { self.old.next ≤ end_of_numbers }
-        ensures examined { AddsLent 2 1 lendings.old lendings.new }
+        ensures examined { AddsReads 2 1 accesses.old accesses.new }
     {
-        match self.slots.locate(k.number, k.place, lendings) {
+        match self.slots.locate(k.number, k.place, accesses) {
             None => Err(conn),
             Some(place) => {
-                let standing = &self.slots.at(place, lendings).standing;
+                let standing = &self.slots.at(place, accesses).standing;
                 if !is_with(&standing.place, holder) {
                     return Err(conn);
                 }
                 let birth = standing.birth;
-                let older = greatest_age < now - birth;
+                let older = max_age < now - birth;
                 if is_closing(broken, older, ended) {
                     return Ok(Err((conn, older)));
                 }
@@ -375,7 +397,7 @@ impl<C: Drop> Records<C> {
                     birth,
                     entered: now,
                 };
-                let _ = self.slots.replace(place, idle, lendings);
+                let _ = self.slots.replace(place, idle, accesses);
                 self.slots.line_up(place);
                 Ok(Ok(()))
             }
@@ -384,18 +406,18 @@ impl<C: Drop> Records<C> {
 
     /// Ends a claimed approval. Returns false and changes nothing if the number is not that of one.
     /// Looks it up once.
-    pub fn end_claimed(&mut self, k: Key, lendings: &mut Lendings) -> bool
+    pub fn end_claimed(&mut self, k: Key, accesses: &mut AccessCounter) -> bool
         ensures ended { result ≡ true → (places.stands places.is_claimed
             (map.get self.old.places k.number) ≡ true)
             × (self.new ≡ machine.after_close true k.number self.old) }
         ensures unfit { result ≡ false → (places.stands places.is_claimed
             (map.get self.old.places k.number) ≡ false) × (self.new ≡ self.old) }
-        ensures examined { AddsLent 1 1 lendings.old lendings.new }
+        ensures examined { AddsReads 1 1 accesses.old accesses.new }
     {
-        match self.slots.locate(k.number, k.place, lendings) {
+        match self.slots.locate(k.number, k.place, accesses) {
             None => false,
             Some(at) => {
-                if !is_claimed(&self.slots.at(at, lendings).standing.place) {
+                if !is_claimed(&self.slots.at(at, accesses).standing.place) {
                     return false;
                 }
                 let _ = self.slots.remove(at);
@@ -406,18 +428,46 @@ impl<C: Drop> Records<C> {
     }
 
     /// Ends a checked-out connection.
-    pub fn close(&mut self, k: Key, lendings: &mut Lendings)
+    pub fn close(&mut self, k: Key, accesses: &mut AccessCounter)
         requires { (s : Standing C) × (map.get self.old.places k.number ≡ Some s)
             × (places.is_out s.place ≡ true) }
         ensures state { self.new ≡ machine.after_close false k.number self.old }
         ensures numbers { self.old.next ≤ end_of_numbers }
-        ensures examined { AddsLent 0 1 lendings.old lendings.new }
+        ensures examined { AddsReads 0 1 accesses.old accesses.new }
     {
-        match self.slots.locate(k.number, k.place, lendings) {
+        match self.slots.locate(k.number, k.place, accesses) {
             None => {}
             Some(place) => {
                 let _ = self.slots.remove(place);
                 self.conns -= 1;
+            }
+        }
+    }
+
+    /// Ends an idle connection, wherever it is in the queue, and returns it. Returns None and
+    /// changes nothing if the number is not that of one. Looks it up once.
+    pub fn evict(&mut self, k: Key, accesses: &mut AccessCounter) -> Option<C>
+        ensures some { IfSome result (λ c. ((birth entered : ℕ)
+            × (map.get self.old.places k.number ≡ Some
+            (record { place = Idle c; birth = birth; entered = entered })))
+            × (self.new ≡ after_reaped k.number self.old)) }
+        ensures none { IfNone result ((places.stands places.is_idle
+            (map.get self.old.places k.number) ≡ false) × (self.new ≡ self.old)) }
+        ensures numbers { self.old.next ≤ end_of_numbers }
+        ensures examined { AddsReads 1 1 accesses.old accesses.new }
+    {
+        match self.slots.locate(k.number, k.place, accesses) {
+            None => None,
+            Some(place) => {
+                if !is_idle(&self.slots.at(place, accesses).standing.place) {
+                    return None;
+                }
+                let Slot {
+                    number: _,
+                    standing,
+                } = self.slots.take_out(place);
+                self.conns -= 1;
+                connection_of(standing.place)
             }
         }
     }
@@ -495,7 +545,7 @@ impl<C: Drop> Records<C> {
     }
 
     /// Allocates for a higher peak.
-    fn make_room(&mut self, peak: u64) -> Result<(), AllocError>
+    fn reserve_for(&mut self, peak: u64) -> Result<(), AllocError>
         requires higher { self.old.peak ≤ peak }
         requires few { peak ≤ most_records }
         ensures ok { OnOk result (self.new ≡ record self.old { peak = peak }) }
@@ -508,8 +558,8 @@ impl<C: Drop> Records<C> {
         Ok(())
     }
 
-    /// Makes sure that there is room for one more record. Returns false if memory is refused.
-    fn make_room_for_one(&mut self) -> bool
+    /// Reserves memory for one more record. Returns false if it is refused.
+    fn reserve_one(&mut self) -> bool
         requires { self.old.conns + self.old.approved < most_records }
         ensures made { result ≡ true → self.new ≡ record
             self.old { peak = max self.old.peak (self.old.conns + self.old.approved + 1) } }
@@ -517,10 +567,10 @@ impl<C: Drop> Records<C> {
             × (self.new ≡ self.old) }
     {
         let used = self.used();
-        used < self.peak || self.make_room(used + 1).is_ok()
+        used < self.peak || self.reserve_for(used + 1).is_ok()
     }
 
-    /// Adds an idle connection with the next number. There must be room.
+    /// Adds an idle connection with the next number. Memory must be reserved.
     fn bear(&mut self, conn: C, now: u64) -> Key
         requires moments { NoneAfter now self.old }
         requires room { self.old.conns + self.old.approved < self.old.peak }
@@ -556,7 +606,7 @@ impl<C: Drop> Records<C> {
         ensures err { IfErr result (λ c. (c ≡ conn)
             × (self.old.conns + self.old.approved ≡ self.old.peak) × (self.new ≡ self.old)) }
     {
-        if !self.make_room_for_one() {
+        if !self.reserve_one() {
             return Err(conn);
         }
         Ok(self.bear(conn, now))
@@ -576,7 +626,7 @@ impl<C: Drop> Records<C> {
         self.next
     }
 
-    /// Adds one approval. There must be room.
+    /// Adds one approval. Memory must be reserved.
     fn approve(&mut self, claimed: bool)
         requires room { self.old.conns + self.old.approved < self.old.peak }
         requires number { self.old.next < end_of_numbers }
@@ -592,7 +642,7 @@ impl<C: Drop> Records<C> {
         self.approved += 1;
     }
 
-    /// Grants the approvals that are due, as far as room and memory allow. All memory is requested
+    /// Grants the approvals that are due, if memory and numbers allow it. All memory is requested
     /// before the first one is added.
     #[cold]
     fn grant_some(&mut self, due: u64, claimed: bool) -> Grant
@@ -604,7 +654,7 @@ impl<C: Drop> Records<C> {
         let possible = due.min(END_OF_NUMBERS - self.next);
         let below = possible.min(self.peak - taken);
         let first = self.next;
-        let count = if below < possible && self.make_room(taken + possible).is_ok() {
+        let count = if below < possible && self.reserve_for(taken + possible).is_ok() {
             possible
         } else {
             below
@@ -668,51 +718,63 @@ impl<C: Drop> Records<C> {
     }
 
     /// Returns the birth of a record.
-    pub fn birth(&self, k: Key, lendings: &mut Lendings) -> u64
+    pub fn birth(&self, k: Key, accesses: &mut AccessCounter) -> u64
         ensures value { result ≡ places.birth_in (map.get self.now.places k.number) }
-        ensures examined { AddsLent 1 1 lendings.old lendings.new }
-        ensures counted { min (lendings.old.lent + 1) end_of_numbers ≤ lendings.new.lent }
+        ensures examined { AddsReads 1 1 accesses.old accesses.new }
+        ensures counted { min (accesses.old.reads + 1) end_of_numbers ≤ accesses.new.reads }
     {
-        match self.slots.slot(k.number, k.place, lendings) {
+        match self.slots.slot(k.number, k.place, accesses) {
             None => 0,
             Some(slot) => slot.standing.birth,
         }
     }
 
     /// Returns the key of a record, None if it has ended.
-    pub fn find(&self, number: u64, lendings: &mut Lendings) -> Option<Key>
+    pub fn find(&self, number: u64, accesses: &mut AccessCounter) -> Option<Key>
         ensures some { IfSome result (λ key. (key.number ≡ number)
             × IsSome (map.get self.now.places number)) }
         ensures none { IfNone result (map.get self.now.places number ≡ None) }
-        ensures examined { AddsLent 0 1 lendings.old lendings.new }
+        ensures examined { AddsReads 0 1 accesses.old accesses.new }
     {
-        match self.slots.locate(number, 0, lendings) {
+        match self.slots.locate(number, 0, accesses) {
             None => None,
             Some(place) => Some(Key { number, place }),
         }
     }
 
     /// Returns whether a record is a claimed approval.
-    pub fn is_claimed(&self, k: Key, lendings: &mut Lendings) -> bool
+    pub fn is_claimed(&self, k: Key, accesses: &mut AccessCounter) -> bool
         ensures value { result ≡ places.stands places.is_claimed
             (map.get self.now.places k.number) }
-        ensures examined { AddsLent 1 1 lendings.old lendings.new }
-        ensures counted { min (lendings.old.lent + 1) end_of_numbers ≤ lendings.new.lent }
+        ensures examined { AddsReads 1 1 accesses.old accesses.new }
+        ensures counted { min (accesses.old.reads + 1) end_of_numbers ≤ accesses.new.reads }
     {
-        match self.slots.slot(k.number, k.place, lendings) {
+        match self.slots.slot(k.number, k.place, accesses) {
             None => false,
             Some(slot) => is_claimed(&slot.standing.place),
         }
     }
 
+    /// Returns whether a record is an idle connection.
+    pub fn is_idle(&self, k: Key, accesses: &mut AccessCounter) -> bool
+        ensures value { result ≡ places.stands places.is_idle
+            (map.get self.now.places k.number) }
+        ensures examined { AddsReads 1 1 accesses.old accesses.new }
+    {
+        match self.slots.slot(k.number, k.place, accesses) {
+            None => false,
+            Some(slot) => is_idle(&slot.standing.place),
+        }
+    }
+
     /// Returns whether a guard holds a record.
-    pub fn is_guarded(&self, k: Key, lendings: &mut Lendings) -> bool
+    pub fn is_guarded(&self, k: Key, accesses: &mut AccessCounter) -> bool
         ensures value { result ≡ places.stands places.is_guarded
             (map.get self.now.places k.number) }
-        ensures examined { AddsLent 1 1 lendings.old lendings.new }
-        ensures counted { min (lendings.old.lent + 1) end_of_numbers ≤ lendings.new.lent }
+        ensures examined { AddsReads 1 1 accesses.old accesses.new }
+        ensures counted { min (accesses.old.reads + 1) end_of_numbers ≤ accesses.new.reads }
     {
-        match self.slots.slot(k.number, k.place, lendings) {
+        match self.slots.slot(k.number, k.place, accesses) {
             None => false,
             Some(slot) => is_guarded(&slot.standing.place),
         }

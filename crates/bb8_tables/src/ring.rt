@@ -56,7 +56,7 @@ impl<T: Drop> Ring<T> {
         }
     }
 
-    /// Adds an item at the back. There must be room.
+    /// Adds an item at the back. There must be capacity for it.
     pub fn push(&mut self, item: T)
         requires { length self.old.items < self.old.capacity }
         ensures { self.new ≡ buffer (self.old.items ++ item ∷ []) self.old.capacity }
@@ -69,7 +69,7 @@ impl<T: Drop> Ring<T> {
         }
     }
 
-    /// Adds an item at the back if there is room; otherwise drops it.
+    /// Adds an item at the back if there is capacity for it; otherwise drops it.
     pub fn offer(&mut self, item: T)
         ensures { self.new ≡ offered item self.old }
     {

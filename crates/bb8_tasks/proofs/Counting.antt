@@ -1,4 +1,4 @@
--- How many openings a run begins, at most.
+-- How many connection attempts a run begins, at most.
 use Rattle.bb8_tasks.proofs.Words.{◌≡◌, ℕ, suc, ◌+◌, ◌-◌, ◌*◌, ◌^◌, ◌<◌, ◌≤◌, min, Bool, false, Option, Some, None, List, [], ◌∷◌, length, inl, inr, subst, sym, ap, refl, arith, cases_lt, cases_Bool, Moment, wait, waits, Reply, ReplenishAnswer, Start, Connecting, Acquiring, Sleeping, Done, Tries, IsBounded, Task, first_task, Runs, Plays, IsDue, failed_once_more}
 use Rattle.bb8_tasks.specs.declared.backoff.Reply.TheVariants as replies
 use Rattle.bb8_tasks.proofs.Moving.{Standing, Leads, Moves, IsMoment, moved}
@@ -97,7 +97,7 @@ module _ (timeout : ℕ) (retry : Bool) (n : ℕ) (small : n < 70) (past : timeo
       let most = kept-bounded r.0.latest r.0.stage (0 + tries) (run-keeps timeout retry Keeps keeps-move first_task polls answers tries r.0 0 refl r.1) in
       omega arith
 
--- the bound on the openings of every run
+-- the bound on the attempts of every run
 pub bounded : (timeout : ℕ) (retry : Bool) (polls : List (Moment × Reply)) (answers : List (ReplenishAnswer (Unit {0}))) (tries : ℕ)
     → timeout < 2 ^ 64 * 1_000_000_000 → Plays timeout retry polls answers tries → IsBounded timeout tries
 bounded timeout retry polls answers tries fits r half =
@@ -131,7 +131,7 @@ module _ (timeout : ℕ) (retry : Bool) (off : retry ≡ false) where
   kept-one (Sleeping t due) tries k = absurd k
   kept-one _ tries k = k
 
-  -- with no retry a run begins one opening at most
+  -- with no retry a run begins one attempt at most
   pub at_most_one : (polls : List (Moment × Reply)) (answers : List (ReplenishAnswer (Unit {0}))) (tries : ℕ) → Plays timeout retry polls answers tries → tries ≤ 1
   at_most_one polls answers tries r =
       let most = kept-one r.0.stage (0 + tries)
@@ -139,7 +139,7 @@ module _ (timeout : ℕ) (retry : Bool) (off : retry ≡ false) where
       omega arith
 
 module _ (timeout : ℕ) (retry : Bool) where
-  -- a run over a list that is not empty begins an opening
+  -- a run over a list that is not empty begins an attempt
   pub at_least_one : (polls : List (Moment × Reply)) (answers : List (ReplenishAnswer (Unit {0}))) (tries : ℕ) → 0 < length polls → Plays timeout retry polls answers tries → 1 ≤ tries
   at_least_one [] answers tries some r = absurd (omega arith)
   at_least_one (p ∷ polls) [] tries some r = absurd r.1

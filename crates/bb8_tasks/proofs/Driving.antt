@@ -16,7 +16,7 @@ some-due m span None h fits = absurd (omega arith)
 some-due m span (Some d) h fits = (d, refl, h)
 
 module _ (timeout : ℕ) (retry : Bool) where
-  -- one poll of a task that stands so
+  -- one poll of a task in this state
   moved-from : (stage : Standing) (p : Moment × Reply) (x : Task) (tried : ℕ) (a : ReplenishAnswer (Unit {0})) (x' : Task) → x.stage ≡ stage
       → Polled timeout retry p x tried a x' → Led timeout retry p x.latest stage tried x'
   moved-from stage p x tried a x' is r = subst (λ (s : Standing). Led timeout retry p x.latest s tried x') is (moved timeout retry p x tried a x' r)

@@ -1,11 +1,11 @@
--- One poll of a replay in plain words: where it leaves the task, and how many openings it begins.
-use Rattle.bb8_tasks.proofs.Words.{◌≡◌, ℕ, ◌-◌, ◌<◌, ◌≤◌, max, Bool, true, false, Option, Some, None, Result, Ok, ◌⊎◌, subst, ap, sym, ◌∙◌, refl, inl, inr, arith, cases_lt, Poll, Moment, Key, wait, Reply, OpenedAnswer, ReplenishStep, ReplenishAnswer, ReplenishStage, Start, Connecting, Acquiring, Sleeping, Done, Tries, told, begun, scripted, steady, Task, Polled, IsDue, failed_once_more, AfterOpened, AfterTaskAcquire, AfterTaskConnect, Enters, TaskConnects, TaskBegins, TaskProceeds}
+-- One poll of a replay in plain words: where it leaves the task, and how many attempts it begins.
+use Rattle.bb8_tasks.proofs.Words.{◌≡◌, ℕ, ◌-◌, ◌<◌, ◌≤◌, max, Bool, true, false, Option, Some, None, Result, Ok, ◌⊎◌, subst, ap, sym, ◌∙◌, refl, inl, inr, arith, cases_lt, Poll, Moment, Key, wait, Reply, OpenedAnswer, ReplenishStep, ReplenishAnswer, ReplenishStage, Start, Connecting, Acquiring, Sleeping, Done, Tries, outcome, begun, scripted, steady, Task, Polled, IsDue, failed_once_more, AfterOpened, AfterTaskAcquire, AfterTaskConnect, Enters, TaskConnects, TaskBegins, TaskProceeds}
 use Rattle.futures.specs.declared.task.Poll.TheVariants.{Ready}
 use Rattle.bb8_core.specs.declared.answers.Looked.{Looked}
 use Rattle.bb8_tasks.specs.declared.backoff.Reply.TheVariants as replies
 use Rattle.bb8_tasks.specs.declared.backoff.Scripted.{Scripted}
 
--- where such a task stands
+-- the state of such a task
 abbrev pub Standing : Type 0
 Standing = ReplenishStage (Unit {0}) (Unit {0}) (Unit {0})
 
@@ -46,9 +46,9 @@ module _ (timeout : ℕ) (retry : Bool) (m : Moment) where
         let done = entered x1 x' next at in
         (done.0, done.1 ∙ same)
 
-    -- a poll of the opening leads where its reply says
+    -- a poll of the attempt leads where its reply says
     leads : (reply : Reply) (tries : Tries) (x x' : Scripted) (next : Step)
-        → AfterTaskConnect steady timeout retry approval m scripted (told reply) tries tt x next x' → Leads reply tries next.stage × (x' ≡ x)
+        → AfterTaskConnect steady timeout retry approval m scripted (outcome reply) tries tt x next x' → Leads reply tries next.stage × (x' ≡ x)
     leads replies.Pending tries x x' next r = (r.1, r.2)
     leads replies.Ok tries x x' next (x1, ended, (acquiring, c, x2, begun_so, (answer, c1, acquiring1, x3, (is, same), r))) =
         let done = prepared answer tries x3 x' next is r in
@@ -63,16 +63,16 @@ module _ (timeout : ℕ) (retry : Bool) (m : Moment) where
         stays false is = over (inl (sym is))
         stays true is = elim (cases_lt timeout (m.0 - tries.start.0)) [ inl late ↦ over (inr late) | inr within ↦ (r.1 (sym is) within).2.2 ]
 
-    -- a poll of an opening that is under way
+    -- a poll of an attempt in progress
     connects : (reply : Reply) (tries : Tries) (connecting : Unit {0}) (x x' : Scripted) (next : Step) → x.reply ≡ reply
         → TaskConnects steady timeout retry approval m scripted tries connecting x next x' → Leads reply tries next.stage × (x' ≡ x)
     connects reply tries connecting x x' next is (answer, connecting1, x1, (said, same), r) =
-        let told_so : answer ≡ told reply = said ∙ ap told is in
+        let told_so : answer ≡ outcome reply = said ∙ ap outcome is in
         let after = subst (λ (y : Poll (Result (Unit {0}) (Unit {0}))). AfterTaskConnect steady timeout retry approval m scripted y tries tt x1 next x') told_so r in
         let led = leads reply tries x1 x' next after in
         (led.0, led.1 ∙ same)
 
-    -- a poll that begins an opening
+    -- a poll that begins an attempt
     begins : (reply : Reply) (tries : Tries) (x x' : Scripted) (next : Step) → x ≡ record { reply = reply; tries = 0 }
         → TaskBegins steady timeout retry approval m scripted tries x next x' → (x'.tries ≡ 1) × Leads reply tries next.stage
     begins reply tries x x' next is (connecting, x1, begun_so, r) =
@@ -102,7 +102,7 @@ IsMoment at latest Done m = m ≡ latest
 IsMoment at latest stage m = m.0 ≡ max at.0 latest.0
 
 module _ (timeout : ℕ) (retry : Bool) where
-  -- where one poll leads a task, and how many openings it begins
+  -- where one poll leads a task, and how many attempts it begins
   abbrev pub Led : Moment × Reply → Moment → Standing → ℕ → Task → Type 0
   Led p latest stage tried t' = IsMoment p.0 latest stage t'.latest × Moves timeout retry t'.latest p.1 stage tried t'.stage
 
@@ -117,7 +117,7 @@ module _ (timeout : ℕ) (retry : Bool) where
       let moves = turns timeout retry t'.latest approval p.1 stage x x' next same alive in
       (at ∙ ap (λ (y : Looked). max y.moment.0 latest.0) is, subst (λ (n : ℕ). Moves timeout retry t'.latest p.1 stage n t'.stage) (sym count) moves)
 
-  -- one poll of a task that stands so
+  -- one poll of a task in this state
   moved-at : (p : Moment × Reply) (approval : Key) (latest : Moment) (stage : Standing) (tried : ℕ) (a : ReplenishAnswer (Unit {0})) (t' : Task)
       → Polled timeout retry p (record { approval = approval; latest = latest; stage = stage }) tried a t' → Led p latest stage tried t'
   moved-at p approval latest Start tried a t' (x', (seen, x, (is, same), at, key, r), count) = looked p approval latest Start tried a t' seen x x' is same at count r
@@ -134,7 +134,7 @@ module _ (timeout : ℕ) (retry : Bool) where
   pub moved : (p : Moment × Reply) (t : Task) (tried : ℕ) (a : ReplenishAnswer (Unit {0})) (t' : Task) → Polled timeout retry p t tried a t' → Led p t.latest t.stage tried t'
   moved p t tried a t' r = moved-at p t.approval t.latest t.stage tried a t' r
 
-  -- a poll begins one opening at most
+  -- a poll begins one attempt at most
   pub tried-most : (p : Moment × Reply) (t : Task) (tried : ℕ) (a : ReplenishAnswer (Unit {0})) (t' : Task) → Polled timeout retry p t tried a t' → tried ≤ 1
   tried-most p t tried a t' r = most t.stage (moved p t tried a t' r).1
     where

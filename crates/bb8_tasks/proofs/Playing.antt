@@ -13,7 +13,7 @@ module _ (timeout : ℕ) (retry : Bool) where
       (r.0, r.1, r.2 + tried, r.3, run_more r.1 polls answers r.2 t' p a tried t'' r.4 h, omega arith)
   run_more t _ _ tries t' p a tried t'' r h = absurd r
 
-  -- a run answers each poll
+  -- a run has a result for each poll
   pub run_length : (t : Task) (polls : List (Moment × Reply)) (answers : List (ReplenishAnswer (Unit {0}))) (tries : ℕ) (t' : Task)
       → Runs timeout retry t polls answers tries t' → length answers ≡ length polls
   run_length t [] [] tries t' r = refl

@@ -15,28 +15,28 @@ module _ {T E X : Type 0} (polls : T → X → ReplenishAnswer E → T → X →
   -- one task more is polled
   one_more : (had : List T) (x : X) (left : List T) (x1 : X) (t : T) (r : ReplenishAnswer E) (t' : T) (x2 x3 : X) → PollsEach (GoesOn polls on) sinks had x left x1
       → GoesOn polls on t x1 r t' x2 → Reports sinks r x2 x3 → PollsEach (GoesOn polls on) sinks (had ++ t ∷ []) x (left ++ kept r t') x3
-  one_more [] x left x1 t r t' x2 x3 (none, same) poll told =
-      (r, t', x2, subst (λ y. GoesOn polls on t y r t' x2) same poll, (x3, told, ([], (refl, refl), rw none (sym (append-nil (kept r t'))))))
-  one_more (h ∷ had) x left x1 t r t' x2 x3 (q, h', y, p, (z, told', (more, each, is))) poll told =
-      (q, h', y, p, (z, told', (more ++ kept r t', one_more had z more x1 t r t' x2 x3 each poll told, rw is (append_assoc (kept q h') more (kept r t')))))
+  one_more [] x left x1 t r t' x2 x3 (none, same) poll outcome =
+      (r, t', x2, subst (λ y. GoesOn polls on t y r t' x2) same poll, (x3, outcome, ([], (refl, refl), rw none (sym (append-nil (kept r t'))))))
+  one_more (h ∷ had) x left x1 t r t' x2 x3 (q, h', y, p, (z, outcome', (more, each, is))) poll outcome =
+      (q, h', y, p, (z, outcome', (more ++ kept r t', one_more had z more x1 t r t' x2 x3 each poll outcome, rw is (append_assoc (kept q h') more (kept r t')))))
 
   turned : (had : List T) (start : X) (behind : List T) (x : X) (t : T) (r : ReplenishAnswer E) (t' : T) (x1 : X) (o : Option E) (x' : X)
       → PollsEach (GoesOn polls on) sinks had start behind x → polls t x r t' x1 → o ≡ stops on r → AfterPoll polls on sinks o r x1 x'
       → PollsUntil polls on sinks (had ++ t ∷ []) start o (behind ++ kept r t') x'
-  turned had start behind x t r t' x1 None x' each p is told = one_more had start behind x t r t' x1 x' each (p, sym is) told
+  turned had start behind x t r t' x1 None x' each p is outcome = one_more had start behind x t r t' x1 x' each (p, sym is) outcome
   turned had start behind x t r t' x1 (Some e) x' each p is same =
       let s = stopped on r e (sym is) in
       let p' : polls t x (Failed e) t' x1 = subst (λ (y : ReplenishAnswer E). polls t x y t' x1) s.1 p in
       (had, behind, x, each, (t, t', [], rw same p', s.0, refl, rw s.1 refl))
 
-  -- the first task of a queue has its turn, and what is kept of it stands behind
+  -- the first task of a queue has its turn, and what is kept of it goes to the back
   turn : (had : List T) (start : X) (o : Option E) (behind : List T) (x : X) (t : T) (rest q' : List T) (o' : Option E) (x' : X)
       → PollsUntil polls on sinks had start o behind x → QueueTurns polls on sinks o (t ∷ rest) x o' q' x'
       → (back : List T) × (q' ≡ rest ++ back) × PollsUntil polls on sinks (had ++ t ∷ []) start o' (behind ++ back) x'
-  turn had start None behind x t rest q' o' x' each (u, tail, e, (r, u', x1, p, is, told, e')) =
+  turn had start None behind x t rest q' o' x' each (u, tail, e, (r, u', x1, p, is, outcome, e')) =
       let head : u ≡ t = cc in
       let same : tail ≡ rest = cc in
-      (kept r u', rw (e', same) refl, turned had start behind x t r u' x1 o' x' each (subst (λ y. polls y x r u' x1) head p) is told)
+      (kept r u', rw (e', same) refl, turned had start behind x t r u' x1 o' x' each (subst (λ y. polls y x r u' x1) head p) is outcome)
   turn had start (Some f) behind x t rest q' o' x' (before, again, y, each, (u, u', after, p, stop, ts, left)) (v, tail, e, e', stays, same) =
       let head : v ≡ t = cc in
       let is : tail ≡ rest = cc in (
@@ -45,7 +45,7 @@ module _ {T E X : Type 0} (polls : T → X → ReplenishAnswer E → T → X →
         rw (stays, same) (before, again, y, each, (u, u', after ++ t ∷ [], p, stop, rw ts (append_assoc before (u ∷ after) (t ∷ [])), rw left (append_assoc again after (t ∷ [])))),
       )
 
-  -- so many tasks at the front of the queue still have their turn, and behind them stand those that
+  -- so many tasks at the front of the queue still have their turn, and behind them are those that
   -- had it and are kept
   abbrev pub RoundMidway : List T → X → List T → X → Option E → ℕ → Type 0
   RoundMidway first start queue x stopped count =
@@ -93,4 +93,4 @@ module _ {T E X : Type 0} (polls : T → X → ReplenishAnswer E → T → X →
   -- it polls each task once
   pub polls_each : (ts : List T) (x : X) (left : List T) (x' : X) → PollsEach (GoesOn polls GoOn) sinks ts x left x' → PollsEach polls sinks ts x left x'
   polls_each [] x left x' p = p
-  polls_each (t ∷ ts) x left x' (r, t', x1, p, (x2, told, (more, each, is))) = (r, t', x1, p.0, (x2, told, (more, polls_each ts x2 more x' each, is)))
+  polls_each (t ∷ ts) x left x' (r, t', x1, p, (x2, outcome, (more, each, is))) = (r, t', x1, p.0, (x2, outcome, (more, polls_each ts x2 more x' each, is)))

@@ -10,7 +10,7 @@ pub use Rattle.bb8_types.specs.declared.api.moments.Moment.{Moment}
 pub use Rattle.bb8_tables.specs.declared.keys.Key.{Key}
 pub use Rattle.bb8_ledger.specs.Waits.{wait, waits}
 pub use Rattle.bb8_tasks.specs.Bounded.{IsBounded, IsReached, IsPolledAt, IsDriven, IsFrom, EachFails, NeverFalls}
-pub use Rattle.bb8_tasks.specs.Played.{Task, Runs, Plays, first_task, Polled, begun, scripted, steady, told}
+pub use Rattle.bb8_tasks.specs.Played.{Task, Runs, Plays, first_task, Polled, begun, scripted, steady, outcome}
 pub use Rattle.bb8_tasks.specs.Replenishing.{failed_once_more, IsDue, AfterTaskAcquire, TaskProceeds, TaskPolls, TaskBegins, AfterTaskConnect, AfterOpened, fresh, TaskAdvances, Wakes, TaskFails, TaskConnects, Enters, is_done, LetsGo}
 pub use Rattle.bb8_tasks.specs.Sweeping.{PollsUntil, QueueTurns, AreFor, LetsGoEach}
 pub use Rattle.bb8_tasks.specs.declared.backoff.Reply.{Reply}

@@ -11,7 +11,7 @@ use Rattle.bb8_tasks.specs.TaskSteps.{TaskStep, Looks, Opens, Fails, Claims, Rea
 
 module _ {C : Type 0} (Makes : StateView C → ℕ → Act C → Answer → StateView C → Type 0) where
   -- a step of a home that makes its events like this: the event and its answer, and which
-  -- connection comes back; a step that does not fit changes nothing but what was lent
+  -- connection is returned; a step that does not fit changes nothing but the count of accesses
   abbrev pub TaskStepsBy : StateView C → Moment → TaskStep C → StateView C → Type 0
   TaskStepsBy s at (Looks seen) s' = Makes s at.0 acts.Look (answer_of_look seen) s'
   TaskStepsBy s at (Opens a c step) s' = Stepped Makes (answer_of_opened a.number) s at.0 (acts.Opened a.number c) step s' × OrComesBack HandsBack c step

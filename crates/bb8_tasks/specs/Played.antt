@@ -10,11 +10,11 @@ use Rattle.bb8_core.specs.declared.answers.ClaimAnswer.TheVariants as claiming
 use Rattle.bb8_tasks.specs.Replenishing.{fresh, TaskPolls}
 use Rattle.bb8_tasks.specs.TaskSteps.{TaskStep, Looks, Opens, Fails, Claims, Reaps, Asks}
 
--- the poll result that a reply stands for
-abbrev pub told : Reply → Poll (Result (Unit {0}) (Unit {0}))
-told replies.Pending = Pending
-told replies.Ok = Ready (Ok tt)
-told replies.Err = Ready (Err tt)
+-- the poll result that a reply means
+abbrev pub outcome : Reply → Poll (Result (Unit {0}) (Unit {0}))
+outcome replies.Pending = Pending
+outcome replies.Ok = Ready (Ok tt)
+outcome replies.Err = Ready (Err tt)
 
 -- one more attempt was begun; a poll counts to 255
 abbrev pub begun : Scripted → Scripted
@@ -24,10 +24,10 @@ begun script = record { reply = script.reply; tries = min (script.tries + 1) 255
 -- once
 abbrev pub scripted : OpenerOf Scripted (Unit {0}) (Unit {0}) (Unit {0}) (Unit {0})
 scripted = record {
-  tells = λ script _ after. after ≡ script;
+  reports = λ script _ after. after ≡ script;
   sinks = λ script _ after. after ≡ script;
   connects = λ script _ after. after ≡ begun script;
-  connect_answers = λ script _ _ answer _ after. (answer ≡ told script.reply) × (after ≡ script);
+  connect_answers = λ script _ _ answer _ after. (answer ≡ outcome script.reply) × (after ≡ script);
   ends_connect = λ script _ after. after ≡ script;
   acquires = λ script _ _ _ after. after ≡ script;
   acquire_answers = λ script _ _ _ answer _ _ after. (answer ≡ Ready (Ok tt)) × (after ≡ script);

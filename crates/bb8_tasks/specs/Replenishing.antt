@@ -40,17 +40,17 @@ DropsTask opener stage x x' = x' ≡ x
 
 module _ {C E V A X : Type 0} (home : HomeOf X C) (timeout : ℕ) (retry : Bool) (approval : Key) (m : Moment) where
   -- this result and stage, without a step or callback
-  abbrev pub TaskStandsAt : ReplenishAnswer E → ReplenishStage C V A → X → ReplenishStep C V A E → X → Type 0
-  TaskStandsAt answer stage x next x' = (next.answer ≡ answer) × (next.stage ≡ stage) × (x' ≡ x)
+  abbrev pub TaskIsAt : ReplenishAnswer E → ReplenishStage C V A → X → ReplenishStep C V A E → X → Type 0
+  TaskIsAt answer stage x next x' = (next.answer ≡ answer) × (next.stage ≡ stage) × (x' ≡ x)
 
-  -- the approval is given back and the task ends with this result, whatever the step's result is
+  -- the approval is returned and the task ends with this result, whatever the step's result is
   abbrev pub GivesApprovalBack : ReplenishAnswer E → X → ReplenishStep C V A E → X → Type 0
   GivesApprovalBack answer x next x' = (step : Result FailedAnswer Unfit) × home.steps x m (task.Fails approval step) x' × (next.answer ≡ answer) × (next.stage ≡ Done)
 
   -- the task sleeps until its wait is over, and tries again then
   abbrev pub Sleeps : Tries → E → X → ReplenishStep C V A E → X → Type 0
   Sleeps tries e x next x' =
-      (due : Option Moment) × IsDue m (wait timeout tries.failures) due × TaskStandsAt (answers.Retrying e) (Sleeping tries due) x next x'
+      (due : Option Moment) × IsDue m (wait timeout tries.failures) due × TaskIsAt (answers.Retrying e) (Sleeping tries due) x next x'
 
   -- a failed try, after these tries
   abbrev pub TaskFails : Tries → E → X → ReplenishStep C V A E → X → Type 0
@@ -62,10 +62,10 @@ module _ {C E V A X : Type 0} (home : HomeOf X C) (timeout : ℕ) (retry : Bool)
     -- after the step `opened`: a connection that it returns is dropped; if it came too late, the
     -- home is then asked to grant approvals for waiters
     abbrev pub AfterOpened : Result (OpenedAnswer C) C → X → ReplenishStep C V A E → X → Type 0
-    AfterOpened (Ok (opened.Entered notified)) x next x' = TaskStandsAt answers.Entered Done x next x'
+    AfterOpened (Ok (opened.Entered notified)) x next x' = TaskIsAt answers.Entered Done x next x'
     AfterOpened (Ok (opened.Late c)) x next x' =
-        (x1 : X) × opener.lets_go x c x1 × ((grant : Grant) × (x2 : X) × home.steps x1 m (task.Asks grant) x2 × TaskStandsAt answers.Late Done x2 next x')
-    AfterOpened (Err c) x next x' = (x1 : X) × opener.lets_go x c x1 × TaskStandsAt answers.GivenBack Done x1 next x'
+        (x1 : X) × opener.lets_go x c x1 × ((grant : Grant) × (x2 : X) × home.steps x1 m (task.Asks grant) x2 × TaskIsAt answers.Late Done x2 next x')
+    AfterOpened (Err c) x next x' = (x1 : X) × opener.lets_go x c x1 × TaskIsAt answers.GivenBack Done x1 next x'
 
     -- the connection is added to the pool
     abbrev pub Enters : C → X → ReplenishStep C V A E → X → Type 0
@@ -75,7 +75,7 @@ module _ {C E V A X : Type 0} (home : HomeOf X C) (timeout : ℕ) (retry : Bool)
     -- states: a finished preparation is ended first; if it failed, the connection is dropped before
     -- the home's step
     abbrev pub AfterTaskAcquire : Poll (Result (Unit {0}) E) → Tries → C → A → X → ReplenishStep C V A E → X → Type 0
-    AfterTaskAcquire Pending tries c acquiring x next x' = TaskStandsAt answers.Pending (Acquiring tries c acquiring) x next x'
+    AfterTaskAcquire Pending tries c acquiring x next x' = TaskIsAt answers.Pending (Acquiring tries c acquiring) x next x'
     AfterTaskAcquire (Ready (Ok u)) tries c acquiring x next x' = (x1 : X) × opener.ends_acquire x acquiring x1 × Enters c x1 next x'
     AfterTaskAcquire (Ready (Err e)) tries c acquiring x next x' =
         (x1 : X) × opener.ends_acquire x acquiring x1 × ((x2 : X) × opener.lets_go x1 c x2 × TaskFails tries e x2 next x')
@@ -88,7 +88,7 @@ module _ {C E V A X : Type 0} (home : HomeOf X C) (timeout : ℕ) (retry : Bool)
 
     -- after a poll of the attempt, which left it in this state: a finished attempt is ended first
     abbrev pub AfterTaskConnect : Poll (Result C E) → Tries → V → X → ReplenishStep C V A E → X → Type 0
-    AfterTaskConnect Pending tries connecting x next x' = TaskStandsAt answers.Pending (Connecting tries connecting) x next x'
+    AfterTaskConnect Pending tries connecting x next x' = TaskIsAt answers.Pending (Connecting tries connecting) x next x'
     AfterTaskConnect (Ready (Ok c)) tries connecting x next x' =
         (x1 : X) × opener.ends_connect x connecting x1
         × ((acquiring : A) × (c1 : C) × (x2 : X) × opener.acquires x1 c acquiring c1 x2 × TaskAcquires tries c1 acquiring x2 next x')
@@ -106,10 +106,10 @@ module _ {C E V A X : Type 0} (home : HomeOf X C) (timeout : ℕ) (retry : Bool)
 
     -- a sleeping task
     abbrev pub Wakes : Tries → Option Moment → X → ReplenishStep C V A E → X → Type 0
-    Wakes tries None x next x' = TaskStandsAt answers.Pending (Sleeping tries None) x next x'
+    Wakes tries None x next x' = TaskIsAt answers.Pending (Sleeping tries None) x next x'
     Wakes tries (Some due) x next x' =
         (due.0 ≤ m.0 → TaskBegins tries x next x')
-        × (m.0 < due.0 → TaskStandsAt answers.Pending (Sleeping tries (Some due)) x next x')
+        × (m.0 < due.0 → TaskIsAt answers.Pending (Sleeping tries (Some due)) x next x')
 
     -- the rows of each stage, if a handle is alive
     abbrev pub TaskAdvances : ReplenishStage C V A → X → ReplenishStep C V A E → X → Type 0
@@ -117,10 +117,10 @@ module _ {C E V A X : Type 0} (home : HomeOf X C) (timeout : ℕ) (retry : Bool)
     TaskAdvances (Connecting tries connecting) x next x' = TaskConnects tries connecting x next x'
     TaskAdvances (Acquiring tries c acquiring) x next x' = TaskAcquires tries c acquiring x next x'
     TaskAdvances (Sleeping tries due) x next x' = Wakes tries due x next x'
-    TaskAdvances Done x next x' = TaskStandsAt answers.GivenBack Done x next x'
+    TaskAdvances Done x next x' = TaskIsAt answers.GivenBack Done x next x'
 
     -- after the look at the home: if no handle is alive, the task drops what it holds, and then its
-    -- approval is given back
+    -- approval is returned
     abbrev pub TaskProceeds : Bool → ReplenishStage C V A → X → ReplenishStep C V A E → X → Type 0
     TaskProceeds true stage x next x' = TaskAdvances stage x next x'
     TaskProceeds false stage x next x' = (x1 : X) × DropsTask opener stage x x1 × GivesApprovalBack answers.GivenBack x1 next x'

@@ -82,4 +82,4 @@ module _ {T E X : Type 0} (polls : T → X → ReplenishAnswer E → T → X →
 
 -- the clock is read, and `Does` follows at that moment
 abbrev pub AtReading : {X : Type 0} → (X → Moment → X → Type 0) → (Moment → X → X → Type 0) → X → X → Type 0
-AtReading {X} tells Does x x' = (at : Moment) × (x1 : X) × tells x at x1 × Does at x1 x'
+AtReading {X} reports Does x x' = (at : Moment) × (x1 : X) × reports x at x1 × Does at x1 x'

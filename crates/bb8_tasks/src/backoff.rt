@@ -3,7 +3,7 @@ ghost use Rattle.std.specs.Prelude.{◌≡◌, ◌<◌, ◌≤◌, ◌+◌, IfOk
 ghost use Rattle.std.specs.Duration.{as_nanos};
 ghost use Rattle.futures.specs.declared.task.Poll.TheVariants.{Ready};
 ghost use Rattle.bb8_tasks.specs.Bounded.{IsBounded, IsReached};
-ghost use Rattle.bb8_tasks.specs.Played.{told, begun, IsSteady, Polled, Plays, Runs};
+ghost use Rattle.bb8_tasks.specs.Played.{outcome, begun, IsSteady, Polled, Plays, Runs};
 
 use super::home::Home;
 use super::opener::Opener;
@@ -40,13 +40,13 @@ impl Opener<(), ()> for Scripted {
 
     type Acquiring = ();
 
-    ghost tells = { λ script _ after. after ≡ script };
+    ghost reports = { λ script _ after. after ≡ script };
 
     ghost sinks = { λ script _ after. after ≡ script };
 
     ghost connects = { λ script _ after. after ≡ begun script };
 
-    ghost connect_answers = { λ script _ _ answer _ after. (answer ≡ told script.reply) × (after ≡ script) };
+    ghost connect_answers = { λ script _ _ answer _ after. (answer ≡ outcome script.reply) × (after ≡ script) };
 
     ghost ends_connect = { λ script _ after. after ≡ script };
 

@@ -1,7 +1,7 @@
 //! Attempts to open a connection that the pool does not count.
 ghost use Rattle.std.specs.Prelude.{◌≡◌};
-ghost use Rattle.bb8_tasks.specs.Dedicating.{fresh, is_done, OpeningAcquires, OpeningAdvances, OpeningBegins, OpeningConnects, DropsOpening, OpeningPolls};
-ghost use Rattle.bb8_tasks.specs.declared.dedicated.Opening.TheVariants.{Done as IsDone};
+ghost use Rattle.bb8_tasks.specs.Dedicating.{fresh, is_done, AttemptAcquires, AttemptAdvances, AttemptBegins, AttemptConnects, DropsAttempt, AttemptPolls};
+ghost use Rattle.bb8_tasks.specs.declared.dedicated.Attempt.TheVariants.{Done as IsDone};
 
 use super::opener::Opener;
 use bb8_core::api::Moment;
@@ -9,7 +9,7 @@ use futures::task::Poll;
 use std::mem;
 
 /// The stage of an attempt between its polls. It cannot be dropped implicitly.
-pub enum Opening<C, V, A> {
+pub enum Attempt<C, V, A> {
     /// Not polled yet.
     Fresh,
     /// Connecting.
@@ -25,11 +25,11 @@ pub struct Opened<C, V, A, E> {
     /// The result.
     pub answer: Poll<Result<C, E>>,
     /// The stage after the poll.
-    pub stage: Opening<C, V, A>,
+    pub stage: Attempt<C, V, A>,
 }
 
 /// Returns this result and stage as one value.
-fn leaves<C, V, A, E>(answer: Poll<Result<C, E>>, stage: Opening<C, V, A>) -> Opened<C, V, A, E>
+fn leaves<C, V, A, E>(answer: Poll<Result<C, E>>, stage: Attempt<C, V, A>) -> Opened<C, V, A, E>
     ensures answer { result.answer ≡ answer }
     ensures stage { result.stage ≡ stage }
 {
@@ -43,18 +43,18 @@ fn acquire<C, E, W: Opener<C, E>>(
     mut connection: C,
     mut acquiring: W::Acquiring,
 ) -> Opened<C, W::Connecting, W::Acquiring, E>
-    ensures { OpeningAcquires W.Opener moment connection acquiring opener.old result opener.new }
+    ensures { AttemptAcquires W.Opener moment connection acquiring opener.old result opener.new }
 {
     match opener.poll_acquire(&mut connection, &mut acquiring, moment) {
-        Poll::Pending => leaves(Poll::Pending, Opening::Acquiring(connection, acquiring)),
+        Poll::Pending => leaves(Poll::Pending, Attempt::Acquiring(connection, acquiring)),
         Poll::Ready(Ok(())) => {
             opener.end_acquire(acquiring);
-            leaves(Poll::Ready(Ok(connection)), Opening::Done)
+            leaves(Poll::Ready(Ok(connection)), Attempt::Done)
         }
         Poll::Ready(Err(error)) => {
             opener.end_acquire(acquiring);
             opener.let_go(connection);
-            leaves(Poll::Ready(Err(error)), Opening::Done)
+            leaves(Poll::Ready(Err(error)), Attempt::Done)
         }
     }
 }
@@ -65,10 +65,10 @@ fn connect<C, E, W: Opener<C, E>>(
     moment: Moment,
     mut connecting: W::Connecting,
 ) -> Opened<C, W::Connecting, W::Acquiring, E>
-    ensures { OpeningConnects W.Opener moment connecting opener.old result opener.new }
+    ensures { AttemptConnects W.Opener moment connecting opener.old result opener.new }
 {
     match opener.poll_connect(&mut connecting, moment) {
-        Poll::Pending => leaves(Poll::Pending, Opening::Connecting(connecting)),
+        Poll::Pending => leaves(Poll::Pending, Attempt::Connecting(connecting)),
         Poll::Ready(Ok(mut connection)) => {
             opener.end_connect(connecting);
             let acquiring = opener.on_acquire(&mut connection);
@@ -76,7 +76,7 @@ fn connect<C, E, W: Opener<C, E>>(
         }
         Poll::Ready(Err(error)) => {
             opener.end_connect(connecting);
-            leaves(Poll::Ready(Err(error)), Opening::Done)
+            leaves(Poll::Ready(Err(error)), Attempt::Done)
         }
     }
 }
@@ -86,7 +86,7 @@ fn begin<C, E, W: Opener<C, E>>(
     opener: &mut W,
     moment: Moment,
 ) -> Opened<C, W::Connecting, W::Acquiring, E>
-    ensures { OpeningBegins W.Opener moment opener.old result opener.new }
+    ensures { AttemptBegins W.Opener moment opener.old result opener.new }
 {
     let connecting = opener.connect();
     connect(opener, moment, connecting)
@@ -96,28 +96,28 @@ fn begin<C, E, W: Opener<C, E>>(
 fn advance<C, E, W: Opener<C, E>>(
     opener: &mut W,
     moment: Moment,
-    stage: Opening<C, W::Connecting, W::Acquiring>,
+    stage: Attempt<C, W::Connecting, W::Acquiring>,
 ) -> Opened<C, W::Connecting, W::Acquiring, E>
-    ensures { OpeningAdvances W.Opener moment stage opener.old result opener.new }
+    ensures { AttemptAdvances W.Opener moment stage opener.old result opener.new }
 {
     match stage {
-        Opening::Fresh => begin(opener, moment),
-        Opening::Connecting(connecting) => connect(opener, moment, connecting),
-        Opening::Acquiring(connection, acquiring) => {
+        Attempt::Fresh => begin(opener, moment),
+        Attempt::Connecting(connecting) => connect(opener, moment, connecting),
+        Attempt::Acquiring(connection, acquiring) => {
             acquire(opener, moment, connection, acquiring)
         }
-        Opening::Done => leaves(Poll::Pending, Opening::Done),
+        Attempt::Done => leaves(Poll::Pending, Attempt::Done),
     }
 }
 
-impl<C, V, A> Opening<C, V, A> {
+impl<C, V, A> Attempt<C, V, A> {
     /// Whether the attempt has returned its result.
     fn is_done(&self) -> bool
         ensures { result ≡ is_done self.now }
     {
         match self {
-            Opening::Done => true,
-            Opening::Fresh | Opening::Connecting(_) | Opening::Acquiring(..) => false,
+            Attempt::Done => true,
+            Attempt::Fresh | Attempt::Connecting(_) | Attempt::Acquiring(..) => false,
         }
     }
 }
@@ -130,7 +130,7 @@ pub struct Dedicated<C, V, A> {
     /// The latest moment that it has seen.
     pub latest: Moment,
     /// The current stage.
-    pub stage: Opening<C, V, A>,
+    pub stage: Attempt<C, V, A>,
 }
 
 impl<C, V, A> Dedicated<C, V, A> {
@@ -140,17 +140,17 @@ impl<C, V, A> Dedicated<C, V, A> {
     {
         Dedicated {
             latest: Moment(0),
-            stage: Opening::Fresh,
+            stage: Attempt::Fresh,
         }
     }
 
     /// Sets the stage; the old one has ended.
-    fn stand(&mut self, stage: Opening<C, V, A>)
+    fn stand(&mut self, stage: Attempt<C, V, A>)
         requires { self.old.stage ≡ IsDone }
         ensures { self.new ≡ record { latest = self.old.latest; stage = stage } }
     {
         match mem::replace(&mut self.stage, stage) {
-            Opening::Done => {}
+            Attempt::Done => {}
             _ => unreachable!(),
         }
     }
@@ -165,7 +165,7 @@ impl<C, V, A> Dedicated<C, V, A> {
         &mut self,
         outside: &mut W,
     ) -> Poll<Result<C, E>>
-        ensures { OpeningPolls W.Opener self.old outside.old result self.new outside.new }
+        ensures { AttemptPolls W.Opener self.old outside.old result self.new outside.new }
     {
         if self.stage.is_done() {
             return Poll::Pending;
@@ -173,7 +173,7 @@ impl<C, V, A> Dedicated<C, V, A> {
         let at = outside.now();
         let moment = Moment(at.0.max(self.latest.0));
         self.latest = moment;
-        let stage = mem::replace(&mut self.stage, Opening::Done);
+        let stage = mem::replace(&mut self.stage, Attempt::Done);
         let Opened { answer, stage } = advance(outside, moment, stage);
         self.stand(stage);
         answer
@@ -181,16 +181,16 @@ impl<C, V, A> Dedicated<C, V, A> {
 
     /// Cancels the attempt: ends what is in progress, then drops the connection, if there is one.
     pub fn cancel<E, W: Opener<C, E, Connecting = V, Acquiring = A>>(self, outside: &mut W)
-        ensures { DropsOpening W.Opener self.stage outside.old outside.new }
+        ensures { DropsAttempt W.Opener self.stage outside.old outside.new }
     {
         let Dedicated { latest: _, stage } = self;
         match stage {
-            Opening::Acquiring(connection, acquiring) => {
+            Attempt::Acquiring(connection, acquiring) => {
                 outside.end_acquire(acquiring);
                 outside.let_go(connection);
             }
-            Opening::Connecting(connecting) => outside.end_connect(connecting),
-            Opening::Fresh | Opening::Done => {}
+            Attempt::Connecting(connecting) => outside.end_connect(connecting),
+            Attempt::Fresh | Attempt::Done => {}
         }
     }
 }

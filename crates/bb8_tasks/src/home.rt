@@ -26,7 +26,7 @@ pub trait Home<C> {
     fn opened(&mut self, at: Moment, approval: Key, connection: C) -> Result<OpenedAnswer<C>, C>
         ensures { steps self.old at (Opens approval connection result) self.new };
 
-    /// Gives back an approval for which no connection was opened.
+    /// Frees an approval for which no connection was opened.
     fn failed(&mut self, at: Moment, approval: Key) -> Result<FailedAnswer, Unfit>
         ensures { steps self.old at (Fails approval result) self.new };
 

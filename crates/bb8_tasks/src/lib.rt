@@ -21,7 +21,7 @@ mod waits;
 
 pub use backoff::{Backoff, Reply, replay_backoff};
 pub use building::{BuildingStage, BuildingStep};
-pub use dedicated::{Dedicated, Opened, Opening};
+pub use dedicated::{Attempt, Dedicated, Opened};
 pub use home::Home;
 pub use opener::Opener;
 pub use reaper::{Reaper, ReaperAnswer};

@@ -21,7 +21,7 @@ pub trait Opener<C, E> {
     type Acquiring;
 
     // Holds before the clock is read, of the moment that it returns, and after it.
-    ghost tells: { Self → MomentOf → Self → Type 0 };
+    ghost reports: { Self → MomentOf → Self → Type 0 };
 
     // Holds before an error is passed to the sink, and after it.
     ghost sinks: { Self → E → Self → Type 0 };
@@ -52,7 +52,7 @@ pub trait Opener<C, E> {
 
     /// Reads the clock.
     fn now(&mut self) -> Moment
-        ensures { tells self.old result self.new };
+        ensures { reports self.old result self.new };
 
     /// Passes an error to the sink.
     fn sink(&mut self, error: E)

@@ -21,14 +21,14 @@ pub enum ReplenishAnswer<E> {
     Pending,
     /// A try failed with this error. The task tries again later.
     Retrying(E),
-    /// The last try failed with this error. The approval was given back, and the task has ended.
+    /// The last try failed with this error. The approval was freed, and the task has ended.
     Failed(E),
     /// The connection was added to the pool, and the task has ended.
     Entered,
     /// The connection was opened too late: it had been retired, or no handle was alive. It was
     /// dropped, an approval for a waiter was asked for, and the task has ended.
     Late,
-    /// The approval was given back or was no longer known, and the task has ended; or it had ended
+    /// The approval was freed or was no longer known, and the task has ended; or it had ended
     /// before this poll.
     GivenBack,
 }
@@ -316,7 +316,7 @@ impl PollInput {
 /// attempt, `A` a preparation. bb8's is a spawned task.
 ///
 /// It does nothing until it is polled. It cannot be dropped implicitly: `give_back` ends it, so
-/// that its approval is given back to its home.
+/// that its approval is freed.
 pub struct Replenish<C, V, A> {
     approval: Key,
     latest: Moment,
@@ -355,7 +355,7 @@ impl<C, V, A> Replenish<C, V, A> {
     ///
     /// It looks at the home first, and begins at most one connection attempt. A failed try is
     /// repeated later if `retry_connection` is set and at most `connection_timeout` has passed
-    /// since the first try; otherwise the approval is given back. After a result other than
+    /// since the first try; otherwise the approval is freed. After a result other than
     /// `Pending` and `Retrying` each poll returns `GivenBack`, makes no call and changes nothing.
     pub fn poll<E, X: Home<C> + Opener<C, E, Connecting = V, Acquiring = A>>(
         &mut self,
@@ -413,7 +413,7 @@ impl<C, V, A> Replenish<C, V, A> {
     }
 
     /// Cancels the task at a clock reading `at`. If it has not ended, its connection attempt or
-    /// connection is dropped and its approval given back.
+    /// connection is dropped and its approval is freed.
     pub fn give_back<E, X: Home<C> + Opener<C, E, Connecting = V, Acquiring = A>>(
         self,
         at: Moment,

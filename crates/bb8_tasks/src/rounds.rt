@@ -1,6 +1,6 @@
-//! What a round of tasks does when a task fails, and its result.
+//! The result of a round of tasks, and its course when a task fails.
 
-/// What a round does when a task's last try failed.
+/// The course of a round when a task's last try failed.
 #[derive(Clone, Copy, Debug, PartialEq, Eq)]
 pub enum OnFailure {
     /// Stop: poll no further task, and return the error.

@@ -195,7 +195,7 @@ impl<C, V, A> Tasks<C, V, A> {
         }
     }
 
-    /// Cancels each task in order, and gives back the approval of each that has not ended.
+    /// Cancels each task in order, and frees the approval of each that has not ended.
     pub fn give_back<E, X: Home<C> + Opener<C, E, Connecting = V, Acquiring = A>>(
         self,
         at: Moment,
@@ -212,7 +212,7 @@ impl<C, V, A> Tasks<C, V, A> {
 
     /// Reads the clock, and cancels the tasks as `give_back` does.
     pub fn let_go<E, X: Home<C> + Opener<C, E, Connecting = V, Acquiring = A>>(self, pool: &mut X)
-        ensures { AtReading X.tells (λ at. LetsGoEach (LetsGo X.Home X.Opener at) self)
+        ensures { AtReading X.reports (λ at. LetsGoEach (LetsGo X.Home X.Opener at) self)
             pool.old pool.new }
     {
         let at = pool.now();
@@ -226,7 +226,7 @@ impl<C, V, A> Tasks<C, V, A> {
         pool: &mut X,
         config: &Config,
     ) -> Round<Self, E>
-        ensures { AtReading X.tells (λ at x x'. Rounds (TaskPolls X.Home X.Opener
+        ensures { AtReading X.reports (λ at x x'. Rounds (TaskPolls X.Home X.Opener
             (as_nanos config.now.connection_timeout) config.now.retry_connection at) X.sinks
             (LetsGo X.Home X.Opener at) self x result x') pool.old pool.new }
     {

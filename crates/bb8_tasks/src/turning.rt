@@ -60,16 +60,16 @@ impl<C, V, A> Turning<C, V, A> {
         Turning::Going(Upkeep::new(config, start), Tasks::new(alloc))
     }
 
-    /// One turn over a home, at a reading `at` of the clock.
+    /// Makes one turn over a home, at a reading `at` of the clock.
     ///
     /// At a tick it first reaps, if an age has a limit, and then asks the home to grant what
-    /// waiting gets lack, as nobody else does if their openings were given up. So a server that was
+    /// waiting gets lack, as nobody else does if their attempts were given up. So a server that was
     /// down is tried again at the next tick, and not directly after a failure. Then it claims
-    /// approvals until none is unclaimed, while there is a place for a task: where memory for one
-    /// is refused, no claim is made, and the approval stays unclaimed. Then it polls each task
-    /// once, in the order of their claims; those that end are gone, and the error of each try that
-    /// failed goes to the sink. Where a claim finds no handle alive it polls no task, lets all go,
-    /// so that their approvals are given back, and has ended: each later turn calls nothing.
+    /// approvals until none is unclaimed. Exception: if memory for a task is refused, no claim is
+    /// made, and the approval stays unclaimed. Then it polls each task once, in the order of their
+    /// claims, and removes those that have ended; the error of each try that
+    /// failed goes to the sink. If a claim finds no handle alive, it polls no task, cancels all of
+    /// them, which frees their approvals, and has ended: each later turn calls nothing.
     pub fn turn<E: Drop, X: Home<C> + Opener<C, E, Connecting = V, Acquiring = A>>(
         &mut self,
         at: Moment,
@@ -114,7 +114,7 @@ impl<C, V, A> Turning<C, V, A> {
         }
     }
 
-    /// Ends the driver at a clock reading `at`: cancels its tasks in order, and gives back the
+    /// Ends the driver at a clock reading `at`: cancels its tasks in order, and frees the
     /// approval of each that has not ended.
     pub fn give_back<E, X: Home<C> + Opener<C, E, Connecting = V, Acquiring = A>>(
         self,
@@ -131,7 +131,8 @@ impl<C, V, A> Turning<C, V, A> {
 
     /// Reads the clock, and ends the driver as `give_back` does.
     pub fn let_go<E, X: Home<C> + Opener<C, E, Connecting = V, Acquiring = A>>(self, pool: &mut X)
-        ensures { AtReading X.tells (λ at. DriverLetsGo X.Home X.Opener at self) pool.old pool.new }
+        ensures { AtReading X.reports
+            (λ at. DriverLetsGo X.Home X.Opener at self) pool.old pool.new }
     {
         let at = pool.now();
         self.give_back(at, pool);

@@ -3,11 +3,12 @@
 
 mod manager;
 mod service;
+#[cfg(test)]
+mod tests;
 
 use crate::manager::Manager;
 use crate::service::Questions;
-use bb8::{Builder, MachineClock};
-use bb8_blocking::Blocking;
+use bb8::{Blocking, Builder, MachineClock};
 use std::io;
 use std::process::ExitCode;
 

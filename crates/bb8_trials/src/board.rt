@@ -224,7 +224,7 @@ pub struct ServerConnection {
     pub checks: u64,
     /// 0, or a number that a customizer set.
     pub field: u64,
-    /// Whether it is found broken, besides the board's `breaks`.
+    /// Whether it is found broken, whatever the board's `breaks`.
     pub is_broken: bool,
     digit: u64,
     board: Arc<Board, Global>,

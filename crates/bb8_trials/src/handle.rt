@@ -8,7 +8,9 @@ use bb8::dedicated::DedicatedFuture;
 use bb8::get::GetFuture;
 use bb8::owned::{GetOwnedFuture, OwnedConnection};
 use bb8::pool::{Pool, PooledConnection};
-use bb8::{AddError, Cancel, Gets, Given, ManageConnection, PoolCalls, PoolParts, RunError, State};
+use bb8::{
+    AddError, Cancel, Gets, ManageConnection, PoolCalls, PoolPermits, PoolTypes, RunError, State,
+};
 use futures::task::Poll;
 use futures::test::MockTask;
 use std::ops::DerefMut;
@@ -83,7 +85,7 @@ pub trait LentHandle<M: ManageConnection>: Copy {
     fn state(self) -> State;
 }
 
-impl<'a, G: Given<Runtime: Wait>, L: PoolParts> LentHandle<G::Manager> for &'a Pool<G, L> {
+impl<'a, G: PoolTypes<Runtime: Wait>, L: PoolPermits> LentHandle<G::Manager> for &'a Pool<G, L> {
     type Get = GetFuture<'a, G, L>;
 
     type Guard = PooledConnection<'a, G, L>;
@@ -215,7 +217,7 @@ pub trait OwnedHandle<M: ManageConnection>: Drop {
         Self: Sized;
 }
 
-impl<G: Given<Runtime: Wait>, L: PoolParts> OwnedHandle<G::Manager> for Pool<G, L> {
+impl<G: PoolTypes<Runtime: Wait>, L: PoolPermits> OwnedHandle<G::Manager> for Pool<G, L> {
     type OwnedGet = GetOwnedFuture<G, L>;
 
     type OwnedGuard = OwnedConnection<G, L>;
@@ -259,7 +261,8 @@ pub trait Unbuilt<M: ManageConnection>: Drop {
     fn cancel(self);
 }
 
-impl<G: Given<Runtime: Wait + AllocGlobal>, L: PoolParts> Unbuilt<G::Manager> for Building<G, L> {
+impl<G: PoolTypes<Runtime: Wait + AllocGlobal>, L: PoolPermits> Unbuilt<G::Manager>
+    for Building<G, L> {
     type Pool = Pool<G, L>;
 
     fn poll(&mut self, task: &MockTask) -> Polled<Self::Pool, G::Error> {

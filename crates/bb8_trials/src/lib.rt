@@ -1,4 +1,4 @@
-//! What tests of live pools share, so that their bodies need neither conditions nor proofs.
+//! Helpers of tests of live pools. With them a test's body needs neither conditions nor proofs.
 //!
 //! A test uses its pool by a handle (`LentHandle`, `OwnedHandle`, `Unbuilt`) whose calls have no
 //! clauses. A `Server` opens, checks and breaks connections as its `Board` says; the user callbacks

@@ -12,7 +12,7 @@ abbrev pub change : {R : Type 0} → ℕ → ℕ → R → List R → List R
 change n k new [] = []
 change n k new (r ∷ rs) = cond (eqb k n) new r ∷ change (suc n) k new rs
 
--- each element stands below the position m, if it stands anywhere
+-- each element is below the position m, if it is anywhere
 abbrev pub Before : {R : Type 0} → (ℕ → R → Bool) → ℕ → List R → Type 0
 Before stands m [] = Unit {0}
 Before stands m (r ∷ rs) = ((p : ℕ) → stands p r ≡ true → p < m) × Before stands m rs
@@ -256,7 +256,7 @@ module _ {R : Type 0} where
 
   -- ---- by position
 
-  -- the elements that stand at a position stand at no other
+  -- the elements at a position are at no other
   abbrev pub Stands : (ℕ → R → Bool) → Type 0
   Stands stands = (p q : ℕ) (r : R) → stands p r ≡ true → stands q r ≡ true → p ≡ q
 
@@ -300,7 +300,7 @@ module _ {R : Type 0} where
       pick true = h r
       pick false = b.0
 
-  -- an element that is changed stands below m, where it did before
+  -- an element that is changed is below m, where it was before
   pub before-update_kept : (stands : ℕ → R → Bool) (rs : List R) (n k : ℕ) (f : R → R) (m : ℕ) → Before stands m rs
       → ((r : R) → ((p : ℕ) → stands p r ≡ true → p < m) → (p : ℕ) → stands p (f r) ≡ true → p < m) → Before stands m (update n k f rs)
   before-update_kept stands [] n k f m b h = tt
@@ -315,7 +315,7 @@ module _ {R : Type 0} where
   before-map stands [] f m b h = tt
   before-map stands (r ∷ rs) f m b h = (h r b.0, before-map stands rs f m b.1 h)
 
-  -- so nobody stands at m
+  -- so nobody is at m
   pub none_at : (stands : ℕ → R → Bool) (rs : List R) (n m : ℕ) → Before stands m rs → numbers (stands m) n rs ≡ []
   none_at stands [] n m b = refl
   none_at stands (r ∷ rs) n m b =
@@ -330,7 +330,7 @@ module _ {R : Type 0} where
   pub in_order-later : (stands : ℕ → R → Bool) (rs : List R) (n m : ℕ) → Before stands m rs → in_order stands n rs (suc m) ≡ in_order stands n rs m
   in_order-later stands rs n m b = let none : numbers (stands m) n rs ≡ [] = none_at stands rs n m b in rw none (append-nil (in_order stands n rs m))
 
-  -- an event at which the number k enters, that did not stand anywhere
+  -- an event at which the number k enters, that was nowhere before
   pub in_order-enter : (stands : ℕ → R → Bool) (rs : List R) (n k m : ℕ) (new old : R) → Before stands m rs → at n rs k ≡ Some old
       → ((p : ℕ) → stands p old ≡ false) → stands m new ≡ true → ((p : ℕ) → p < m → stands p new ≡ false)
       → in_order stands n (change n k new rs) (suc m) ≡ in_order stands n rs m ++ k ∷ []
@@ -371,7 +371,7 @@ module _ {R : Type 0} where
       (t.0, t.1, m, omega arith, t.2))
       (get_joined (in_order stands n rs m) (numbers (stands m) n rs) j k h)
 
-  -- the first number no longer stands anywhere
+  -- the first number is nowhere any more
   pub in_order-change_head : (stands : ℕ → R → Bool) → Stands stands → (rs : List R) (n k : ℕ) (rest : List ℕ) (new : R)
       → ((p : ℕ) → stands p new ≡ false) → (m : ℕ) → in_order stands n rs m ≡ k ∷ rest → in_order stands n (change n k new rs) m ≡ rest
   in_order-change_head stands one_place rs n k rest new off zero h = cc
@@ -397,7 +397,7 @@ module _ {R : Type 0} where
           let here : numbers (stands m) n (change n k new rs) ≡ numbers (stands m) n rs = numbers-change_kept (stands m) rs n k new t.0 t.1 (off m ∙ sym elsewhere) in
           rw (ih, here) parts
 
-  -- ---- how many stand by position
+  -- ---- how many are at each position
 
   pub length-numbers : (p : R → Bool) (rs : List R) (n : ℕ) → length (numbers p n rs) ≡ tally p rs
   length-numbers p [] n = refl
@@ -509,7 +509,7 @@ module _ {R S : Type 0} where
       goal q false = sym (get-numbered f rs n q)
 
 module _ {S : Type 0} where
-  -- the element behind what stands under a number
+  -- the element behind a number's
   pub standing_found : (rs : List (Numbered S)) (n k : ℕ) (s : S) → standing_at n rs k ≡ Some s → (r : Numbered S) × (at n rs k ≡ Some r) × (r.standing ≡ Some s)
   standing_found rs n k s h = go (at n rs k) refl h
     where
@@ -524,7 +524,7 @@ module _ {S : Type 0} where
   ended_before on rs n k m off b = before-update (λ p r. on r.standing && eqb r.position p) rs n k after_end m b
       (λ r p h. absurd (let clash : false ≡ true = sym (ap (λ (x : Bool). x && eqb r.position p) off) ∙ h in cc))
 
-  -- those in line are as many as those who stand there
+  -- those in line are as many as those who are there
   pub line_counted : (on : Option S → Bool) (rs : List (Numbered S)) (first m : ℕ) → Before (λ p r. on r.standing && eqb r.position p) m rs
       → length (in_order (λ p r. on r.standing && eqb r.position p) first rs m) ≡ tally (λ r. on r.standing) rs
   line_counted on rs first m b = length-in_order (λ p r. on r.standing && eqb r.position p) rs first

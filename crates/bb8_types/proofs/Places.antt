@@ -12,7 +12,7 @@ and_right true b e = (refl, e)
 and_right false b e = cc
 
 module _ {C : Type 0} where
-  -- the record that stands in a place that passes
+  -- the record in a state that passes
   pub standing_is : (test : Place C → Bool) (o : Option (Standing C)) → stands test o ≡ true → (s : Standing C) × (o ≡ Some s) × (test s.place ≡ true)
   standing_is test None h = cc
   standing_is test (Some s) h = (s, refl, h)

@@ -1,4 +1,4 @@
--- Lists of jobs: how many run, which ids they have, and where each stands.
+-- Lists of jobs: how many run, which ids they have, and where each is.
 use Rattle.slots.proofs.Words.{◌≡◌, ℕ, suc, ◌+◌, ◌≤◌, ◌<◌, ◌==◌, cond, Bool, true, false, Option, Some, None, OnSome, List, [], ◌∷◌, ◌++◌, length, take, drop, get_or, refl, sym, ◌∙◌, ap, subst, arith, append_assoc, add-one, drop-cons, take-suc, eqb-true, ne_eqb, JobEntry, JobPlace, Waiting, Ended, AreIds, ids, guards_for, running, place_of, outcome_of, left_after, without}
 use Rattle.slots.specs.declared.job.Outcome.{Outcome}
 
@@ -69,11 +69,11 @@ module _ {J O G : Type 0} where
   gone id low high [] h = refl
   gone id low high (e ∷ es) (first, rest) = leaves (e.id == id) id low high e es refl (first, rest) (gone id (e.id + 1) high es rest)
 
-  -- the jobs from an index on begin with the one that stands there
+  -- the jobs from an index on begin with the one there
   at : (i : ℕ) (e : JobEntry J O G) (es : List (JobEntry J O G)) → i < length es → e ≡ get_or es i e → drop i es ≡ e ∷ drop (i + 1) es
   at i e es less is = rw add-one (drop-cons es i e less ∙ ap (λ x. x ∷ drop (suc i) es) (sym is))
 
-  -- what a search has found before an index: the job of the id stands there or behind
+  -- what a search has found before an index: the job of the id is there or behind
   abbrev pub Searched : ℕ → List (JobEntry J O G) → ℕ → Type 0
   Searched id es i = (place_of id es ≡ place_of id (drop i es)) × (without id es ≡ take i es ++ without id (drop i es))
 

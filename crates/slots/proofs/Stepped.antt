@@ -36,7 +36,7 @@ module _ {J O G D : Type 0} (polls : J → Moment → Poll O → J → Type 0) (
   abbrev Each : List (JobEntry J O G) → List (JobEntry J O G) → ℕ → Type 0
   Each = StepsEach polls polls_get back now
 
-  -- so many jobs at the front of the queue still have their step, and behind them stand those that
+  -- so many jobs at the front of the queue still have their step, and behind them are those that
   -- had it
   abbrev pub TurnMidway : List (JobEntry J O G) → List (JobEntry J O G) → ℕ → ℕ → Type 0
   TurnMidway first queue ended count =

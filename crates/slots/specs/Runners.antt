@@ -10,8 +10,8 @@ use Rattle.bb8_types.specs.declared.api.moments.Moment.{Moment}
 use Rattle.bb8_types.specs.declared.api.sinks.ErrorSink.{Ghosts as SinkOf}
 use Rattle.bb8_gets.specs.declared.state.Stage.TheVariants.{Fresh}
 use Rattle.bb8_tasks.specs.declared.turning.Turn.{Turn}
-use Rattle.bb8.specs.declared.These.{These}
-use Rattle.bb8.specs.declared.Parts.{Ghosts as PartsOf}
+use Rattle.bb8.specs.declared.TypesOf.{TypesOf}
+use Rattle.bb8.specs.declared.Permits.{Ghosts as PermitsOf}
 use Rattle.bb8.specs.declared.driver.Driver.{Driver}
 use Rattle.bb8.specs.declared.get.future.GetFuture.{GetFuture}
 use Rattle.bb8.specs.declared.pool.Pool.{Pool}
@@ -30,20 +30,20 @@ use Rattle.slots.specs.Entries.{running, AddsJob, EachGet}
 use Rattle.slots.specs.Guards.{GivesBack}
 use Rattle.slots.specs.Turns.{StepsEach}
 
-module _ (S Z K R L A : Type 0) (s : SinkOf S Infallible) (z : CustomizerOf Z Slot Infallible A) (k : ClockOf K) (l : PartsOf L) where
+module _ (S Z K R L A : Type 0) (s : SinkOf S Infallible) (z : CustomizerOf Z Slot Infallible A) (k : ClockOf K) (l : PermitsOf L) where
   -- a pool of slots
   abbrev pub SlotPool : Type 0
-  SlotPool = Pool (These SlotManager S Z K R) L SlotManager S Z K R Slot Infallible ⊤ ⊤ A manager.ghosts infallible.ghosts s z k l
+  SlotPool = Pool (TypesOf SlotManager S Z K R) L SlotManager S Z K R Slot Infallible ⊤ ⊤ A manager.ghosts infallible.ghosts s z k l
 
   -- a driver of such a pool
   abbrev pub SlotDriver : Type 0
-  SlotDriver = Driver (These SlotManager S Z K R) L SlotManager S Z K R Slot Infallible ⊤ ⊤ A manager.ghosts infallible.ghosts s z k l
+  SlotDriver = Driver (TypesOf SlotManager S Z K R) L SlotManager S Z K R Slot Infallible ⊤ ⊤ A manager.ghosts infallible.ghosts s z k l
 
   -- a get of a slot
   abbrev pub SlotGet : Type 0
-  SlotGet = GetFuture (These SlotManager S Z K R) L SlotManager S Z K R Slot Infallible ⊤ ⊤ A manager.ghosts infallible.ghosts s z k l
+  SlotGet = GetFuture (TypesOf SlotManager S Z K R) L SlotManager S Z K R Slot Infallible ⊤ ⊤ A manager.ghosts infallible.ghosts s z k l
 
-module _ {J S Z K R L O A : Type 0} {j : JobOf J O} {s : SinkOf S Infallible} {z : CustomizerOf Z Slot Infallible A} {k : ClockOf K} {l : PartsOf L} where
+module _ {J S Z K R L O A : Type 0} {j : JobOf J O} {s : SinkOf S Infallible} {z : CustomizerOf Z Slot Infallible A} {k : ClockOf K} {l : PermitsOf L} where
   -- the jobs of a runner whose outcomes were not taken, in the order of ids
   abbrev pub jobs_in : Runner J S Z K R L O A j s z k l → List (JobEntry J O (SlotGet S Z K R L A s z k l))
   jobs_in runner = runner.entries.items

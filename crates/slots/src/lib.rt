@@ -11,9 +11,9 @@
 //! ```text
 //! #![tactic(auto)]
 //!
-//! ghost use Rattle.bb8.specs.Parts.{IsBlankOf, unchecked_of};
+//! ghost use Rattle.bb8.specs.Permits.{IsBlankOf, unchecked_of};
 //!
-//! use bb8::{Builder, Memory, Moment, NopCustomizer, NopErrorSink, Pool, PoolParts, SetClock};
+//! use bb8::{Builder, Memory, Moment, NopCustomizer, NopErrorSink, Pool, PoolPermits, SetClock};
 //! use futures::task::Poll;
 //! use futures::test::MockTask;
 //! use slots::{Job, Outcome, Runner, RunnerCalls, SlotManager};
@@ -46,10 +46,10 @@
 //!
 //! type SlotPool<R, L> = Pool<SlotManager, NopErrorSink, NopCustomizer, SetClock, R, L>;
 //!
-//! /// Returns the sum of the outputs of ten jobs, of which two run at a time.
+//! /// Returns the sum of the outputs of ten jobs. Two run at a time.
 //! fn run<
 //!     R: Wait + RandomSource + AllocGlobal + Copy + Send + Sync + Drop + 'static,
-//!     L: PoolParts,
+//!     L: PoolPermits,
 //! >(
 //!     rt: R,
 //!     blank: Blank,
@@ -93,8 +93,8 @@
 //! ```
 //!
 //! It prints 120. It has one proof file, `proofs/main/Invariants.antt`, with the name and the
-//! number of the pool's permits and its settings (`ghosts-run-L-Ledger` and `ghosts-run-L-Parts`),
-//! as in `bb8_live_bench`.
+//! number of the pool's permits and its settings (`ghosts-run-L-Ledger` and
+//! `ghosts-run-L-Permits`), as in `bb8_live_bench`.
 #![tactic(auto)]
 
 mod entries;

@@ -13,7 +13,7 @@ use crate::stepping::{Get, SlotGuards};
 use crate::turning::StepsAll;
 use bb8::{
     Clock, CustomizeConnection, Driver, DriverCalls, ErrorSink, Gets, Guards, GuardsCalls, Locks,
-    Memory, Moment, Parts, Pool, PoolCalls,
+    Memory, Moment, Permits, Pool, PoolCalls,
 };
 use futures::task::Context;
 use std::alloc::Global;
@@ -34,7 +34,7 @@ pub struct Runner<
     Z: CustomizeConnection<Slot, Infallible>,
     K: Clock,
     R: Locks,
-    L: Parts,
+    L: Permits,
 > {
     entries: VecDeque<JobEntry<J, J::Out, Get<'a, S, Z, K, R, L>>>,
     guards: SlotGuards<'a, S, Z, K, R, L>,
@@ -53,7 +53,7 @@ impl<
     Z: CustomizeConnection<Slot, Infallible>,
     K: Clock,
     R: Locks,
-    L: Parts,
+    L: Permits,
 > Drop for Runner<'_, J, S, Z, K, R, L> {
     ghost use Rattle.slots.specs.Runners.{LetsRunnerGo};
 
@@ -146,7 +146,7 @@ impl<
     Z: CustomizeConnection<Slot, Infallible>,
     K: Clock,
     R: Wait + AllocGlobal + Send + Sync + Drop + 'static,
-    L: Parts,
+    L: Permits,
 > Runner<'a, J, S, Z, K, R, L> {
     ghost use Rattle.bb8.specs.Drivers.{IsDriverOf};
     ghost use Rattle.slots.specs.Runners.{driver_of, jobs_in, next_id, pool_of};
@@ -177,7 +177,7 @@ impl<
     Z: CustomizeConnection<Slot, Infallible>,
     K: Clock,
     R: Wait + Send + Sync + Drop + 'static,
-    L: Parts,
+    L: Permits,
 > TurnParts for Runner<'a, J, S, Z, K, R, L> {
     ghost use Rattle.slots.specs.Runners.{StepsJobsOf, TurnsDriverOf};
 
@@ -201,7 +201,7 @@ impl<
     Z: CustomizeConnection<Slot, Infallible>,
     K: Clock,
     R: Wait + Send + Sync + Drop + 'static,
-    L: Parts,
+    L: Permits,
 > RunnerCalls for Runner<'a, J, S, Z, K, R, L> {
     ghost use Rattle.slots.specs.Runners.{jobs_in, most_running, next_id, pool_of, running_in, TakesJobOn};
 

@@ -11,7 +11,7 @@ use crate::entries::JobPlace;
 use crate::job::{Job, Outcome};
 use crate::slot::{Slot, SlotManager};
 use bb8::{
-    Clock, CustomizeConnection, ErrorSink, GetFuture, Guards, GuardsCalls, Locks, Moment, Parts,
+    Clock, CustomizeConnection, ErrorSink, GetFuture, Guards, GuardsCalls, Locks, Moment, Permits,
     RunError,
 };
 use futures::Future;
@@ -58,7 +58,7 @@ impl<
     Z: CustomizeConnection<Slot, Infallible>,
     K: Clock,
     R: Wait + Send + Sync + Drop + 'static,
-    L: Parts,
+    L: Permits,
 > StepsOne<J, J::Out, Get<'a, S, Z, K, R, L>> for SlotGuards<'a, S, Z, K, R, L> {
     fn step_job(&mut self, job: J, now: Moment) -> Stepped<J, J::Out, Get<'a, S, Z, K, R, L>>
         ensures steps { 0 < number_in self.old

@@ -12,7 +12,7 @@ use crate::entries::JobEntry;
 use crate::job::Job;
 use crate::slot::Slot;
 use crate::stepping::{Get, SlotGuards, Stepped, StepsOne};
-use bb8::{Clock, CustomizeConnection, ErrorSink, GuardsCalls, Moment, Parts};
+use bb8::{Clock, CustomizeConnection, ErrorSink, GuardsCalls, Moment, Permits};
 use futures::task::Context;
 use std::collections::VecDeque;
 use std::convert::Infallible;
@@ -35,7 +35,7 @@ impl<
     Z: CustomizeConnection<Slot, Infallible>,
     K: Clock,
     R: Wait + Send + Sync + Drop + 'static,
-    L: Parts,
+    L: Permits,
 > StepsAll<VecDeque<JobEntry<J, J::Out, Get<'a, S, Z, K, R, L>>>>
     for SlotGuards<'a, S, Z, K, R, L> {
     #[tactic(auto, using(crate::proofs::Listed::running_append))]

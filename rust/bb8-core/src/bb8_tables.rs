@@ -9,4 +9,4 @@ pub mod records;
 pub mod ring;
 mod table;
 
-pub use table::{LatestLendings, Lendings, UncountedAccess};
+pub use table::{AccessCounter, LatestAccesses, UncountedAccess};

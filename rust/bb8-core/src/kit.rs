@@ -2,9 +2,9 @@
 //!
 //! A refused allocation is an error here and never aborts the process. Exception: [`Arc::new`].
 //!
-//! The sources rely on four properties of [`Vec`] and [`HeapCircularBuffer`]: there is room after
-//! `Ok`, nothing changes after `Err`, a call that needs no memory returns `Ok`, and a vector's
-//! capacity never shrinks. The tests of this file check them.
+//! The sources rely on four properties of [`Vec`] and [`HeapCircularBuffer`]: there is capacity
+//! after `Ok`, nothing changes after `Err`, a call that needs no memory returns `Ok`, and a
+//! vector's capacity never shrinks. The tests of this file check them.
 
 use ::alloc::collections::VecDeque;
 use ::alloc::{sync, vec};
@@ -89,7 +89,7 @@ impl<T> Vec<T> {
         Vec(vec::Vec::new())
     }
 
-    /// Makes room for `additional` more elements. On an error the vector is unchanged.
+    /// Reserves memory for `additional` more elements. On an error the vector is unchanged.
     #[inline]
     pub fn reserve(&mut self, additional: usize) -> Result<(), AllocError> {
         if additional > self.0.capacity() - self.0.len() && is_refused() {
@@ -98,7 +98,7 @@ impl<T> Vec<T> {
         self.0.try_reserve(additional).map_err(|_| AllocError)
     }
 
-    /// Appends an element, and allocates if there is no room. An error returns the element.
+    /// Appends an element, and allocates if there is no capacity. An error returns the element.
     #[inline]
     pub fn push(&mut self, value: T) -> Result<(), AllocFailed<T>> {
         match self.reserve(1) {
@@ -110,7 +110,7 @@ impl<T> Vec<T> {
         }
     }
 
-    /// Appends an element for which there is room.
+    /// Appends an element for which there is capacity.
     #[inline]
     pub fn push_reserved(&mut self, value: T) {
         debug_assert!(self.0.len() < self.0.capacity());
@@ -260,7 +260,7 @@ mod tests {
     }
 
     #[test]
-    fn vector_has_room_after_ok() {
+    fn vector_has_capacity_after_ok() {
         for many in [1, 2, 3, 100, 1000] {
             let mut vector = numbers(5);
             assert_eq!(vector.reserve(many), Ok(()));
@@ -290,7 +290,7 @@ mod tests {
     }
 
     #[test]
-    fn vector_with_room_returns_ok() {
+    fn vector_with_capacity_returns_ok() {
         let mut vector = numbers(5);
         assert_eq!(vector.reserve(10), Ok(()));
         let place = vector.as_slice().as_ptr();

@@ -1,7 +1,7 @@
 #![doc = include_str!("../README.md")]
 #![forbid(unsafe_code)]
 #![warn(missing_docs)]
-// Without the standard library's prelude, a generated file that lacks the kit's `Vec` does not
+// Without the standard library's prelude, a generated file that lacks the `Vec` of `kit` does not
 // compile.
 #![no_std]
 

@@ -30,14 +30,17 @@ fn read(name: &str) -> String {
     fs::read_to_string(&path).unwrap_or_else(|error| panic!("{}: {error}", path.display()))
 }
 
-/// Returns the transcripts of a file.
+/// Returns the transcripts of a file. Those of live pools are not run.
 fn transcripts(text: &str) -> Vec<Transcript> {
     let mut all: Vec<Transcript> = Vec::new();
     for line in text
         .lines()
         .filter(|line| !line.is_empty() && !line.starts_with('#'))
     {
-        if let Some(title) = line.strip_prefix("== ").or(line.strip_prefix("~~ ")) {
+        let title = ["== ", ":: ", "~~ "]
+            .iter()
+            .find_map(|mark| line.strip_prefix(mark));
+        if let Some(title) = title {
             let (title, is_run) = (title.to_owned(), line.starts_with('='));
             let (script, wanted) = (String::new(), Vec::new());
             all.push(Transcript {
@@ -63,7 +66,12 @@ fn transcripts(text: &str) -> Vec<Transcript> {
 /// Runs a script, and returns what it wrote.
 fn run(script: &str) -> (Result<Verdict, Fault>, String) {
     let mut written = Vec::new();
-    let ran = run_script(kit::Global, &mut script.as_bytes(), &mut written);
+    let ran = run_script(
+        kit::Global,
+        &mut script.as_bytes(),
+        &mut written,
+        &mut io::sink(),
+    );
     (ran, String::from_utf8(written).unwrap())
 }
 
@@ -96,7 +104,7 @@ fn transcripts_are_reproduced() {
         assert_eq!(difference(transcript), None, "{}", transcript.title);
     }
     println!(
-        "{} transcripts, and {} that no script can reproduce",
+        "{} transcripts, and {} of live pools or that no script can reproduce",
         run.len(),
         not_run.len()
     );
@@ -104,7 +112,7 @@ fn transcripts_are_reproduced() {
 }
 
 #[test]
-fn every_other_answer_is_a_difference() {
+fn every_other_result_is_a_difference() {
     let mut changed = 0;
     for mut transcript in transcripts(&read("bb8_rows/stdin"))
         .into_iter()
@@ -170,28 +178,46 @@ impl Write for Broken {
 fn failing_streams_are_reported() {
     let mut written = Vec::new();
     assert_eq!(
-        run_script(kit::Global, &mut Broken, &mut written),
+        run_script(kit::Global, &mut Broken, &mut written, &mut io::sink()),
         Err(Fault::Read)
     );
     assert!(written.is_empty());
-    let ran = run_script(kit::Global, &mut "config\n".as_bytes(), &mut Broken);
+    let ran = run_script(
+        kit::Global,
+        &mut "config\n".as_bytes(),
+        &mut Broken,
+        &mut io::sink(),
+    );
     assert_eq!(ran, Err(Fault::Write));
 }
 
-/// Returns whether an answer tells that memory was refused.
+#[test]
+fn a_message_that_cannot_be_written_is_no_fault() {
+    let (mut written, mut script) = (Vec::new(), "config\n0 tri 0\n".as_bytes());
+    let ran = run_script(kit::Global, &mut script, &mut written, &mut Broken);
+    assert_eq!(ran, Ok(Verdict::Bad));
+    assert_eq!(written, b"line 2: not an event\n");
+}
+
+/// Returns whether a result reports that memory was refused.
 #[cfg(feature = "refusals")]
 fn names_memory(answer: &str) -> bool {
     answer == "memory" || answer.contains("withheld")
 }
 
-/// Runs a script with so many requests for memory granted. Checks that it fails with nothing
-/// written, or gives the usual answers up to the first that tells of refused memory. Returns
-/// whether it gave all of them.
+/// Runs a script with this many requests for memory granted. Checks that it fails with nothing
+/// written, or writes the usual results up to the first that reports refused memory. Returns
+/// whether it wrote all of them.
 #[cfg(feature = "refusals")]
 fn is_granted(transcript: &Transcript, requests: u32) -> bool {
     let mut written = Vec::with_capacity(1 << 20);
     let ran = kit::refusals::granting(requests, || {
-        run_script(kit::Global, &mut transcript.script.as_bytes(), &mut written)
+        run_script(
+            kit::Global,
+            &mut transcript.script.as_bytes(),
+            &mut written,
+            &mut io::sink(),
+        )
     });
     let written = String::from_utf8(written).unwrap();
     if ran.is_err() {

@@ -92,7 +92,7 @@ fn compare(dice: &mut Dice) -> u32 {
 }
 
 #[test]
-fn a_start_is_a_begin_and_a_try() {
+fn start_equals_begin_and_try_get() {
     let mut dice = Dice(1);
     let at_once: u32 = (0..2000).map(|_| compare(&mut dice)).sum();
     assert!(at_once > 1000, "{at_once} gets were served at once");

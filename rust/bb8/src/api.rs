@@ -6,6 +6,7 @@ use crate::errors::AddError;
 use crate::figures::State;
 use crate::managers::ManageConnection;
 use crate::pool::{Owner, Shared};
+use std::borrow::Cow;
 use std::fmt;
 use std::ops::{Deref, DerefMut};
 use std::sync::Arc;
@@ -59,7 +60,7 @@ impl<M: ManageConnection> Pool<M> {
     /// ```
     /// use bb8::{AddError, ManageConnection, Pool};
     ///
-    /// /// Returns the connection if the pool has no room for it.
+    /// /// Returns the connection if the pool has no slot for it.
     /// fn hand_in<C, M: ManageConnection<Connection = C>>(pool: &Pool<M>, conn: C) -> Option<C> {
     ///     match pool.add(conn) {
     ///         Ok(()) | Err(AddError::Broken(_)) => None,
@@ -216,15 +217,9 @@ impl<M: ManageConnection> fmt::Debug for Pool<M> {
     }
 }
 
-/// The pool of a guard.
-enum PoolRef<'a, M: ManageConnection> {
-    Borrowed(&'a Arc<Owner<M>>),
-    Owned(Arc<Owner<M>>),
-}
-
 /// A checked-out connection. It is returned to the pool when this is dropped.
 pub struct PooledConnection<'a, M: ManageConnection> {
-    pool: PoolRef<'a, M>,
+    pool: Cow<'a, Arc<Owner<M>>>,
     checkout: Option<Checkout<M::Connection>>,
 }
 
@@ -233,7 +228,7 @@ const HELD: &str = "a guard has its connection until it is dropped";
 impl<'a, M: ManageConnection> PooledConnection<'a, M> {
     pub(crate) fn new(pool: &'a Arc<Owner<M>>, checkout: Checkout<M::Connection>) -> Self {
         PooledConnection {
-            pool: PoolRef::Borrowed(pool),
+            pool: Cow::Borrowed(pool),
             checkout: Some(checkout),
         }
     }
@@ -260,22 +255,13 @@ impl<'a, M: ManageConnection> PooledConnection<'a, M> {
     /// ```
     pub fn detach(mut this: Self) -> M::Connection {
         let checkout = this.checkout.take().expect(HELD);
-        this.pool().shared.detach(checkout)
-    }
-
-    /// The pool of the guard.
-    #[inline]
-    fn pool(&self) -> &Arc<Owner<M>> {
-        match &self.pool {
-            PoolRef::Borrowed(pool) => pool,
-            PoolRef::Owned(pool) => pool,
-        }
+        this.pool.shared.detach(checkout)
     }
 
     /// Makes the guard a handle to its pool, too.
     pub(crate) fn into_owned(mut self) -> PooledConnection<'static, M> {
         PooledConnection {
-            pool: PoolRef::Owned(self.pool().clone()),
+            pool: Cow::Owned(Arc::clone(&self.pool)),
             checkout: self.checkout.take(),
         }
     }
@@ -308,7 +294,7 @@ impl<M: ManageConnection> Drop for PooledConnection<'_, M> {
     #[inline]
     fn drop(&mut self) {
         if let Some(checkout) = self.checkout.take() {
-            self.pool().shared.release(checkout);
+            self.pool.shared.release(checkout);
         }
     }
 }

@@ -2,7 +2,6 @@
 
 use crate::api::Pool;
 use crate::managers::{CustomizeConnection, ErrorSink, ManageConnection, NopErrorSink};
-use crate::moments::Checks;
 use crate::pool::Owner;
 use std::collections::hash_map::RandomState;
 use std::hash::{BuildHasher, Hasher};
@@ -29,17 +28,17 @@ pub struct Config {
     pub retry_connection: bool,
     /// How often the pool closes connections that are too old, or idle for too long.
     pub reaper_rate: Duration,
-    /// Which idle connection is checked out first.
+    /// The order in which idle connections are checked out.
     pub queue_strategy: QueueStrategy,
-    /// After which wait a get is handed its connection directly.
+    /// How long a get waits before it is handed a connection directly.
     pub fair_after: Option<Duration>,
-    /// How long one attempt to open a connection may take; as `connection_timeout` if `None`.
+    /// How long one connection attempt may take: `connection_timeout` if `None`.
     pub connect_timeout: Option<Duration>,
     /// How long a check may take.
     pub test_timeout: Option<Duration>,
     /// For how long a connection has to be idle until it is checked.
     pub test_on_check_out_after: Duration,
-    /// By which share of `max_lifetime`, at most, the life of each connection is shortened.
+    /// The largest share of `max_lifetime` by which a connection's life is shortened at random.
     pub max_lifetime_jitter: f64,
 }
 
@@ -49,7 +48,7 @@ impl<M: ManageConnection> From<&Builder<M>> for Config {
     }
 }
 
-/// Which idle connection is checked out first.
+/// The order in which idle connections are checked out.
 #[derive(Debug, Default, Clone, Copy, PartialEq, Eq)]
 pub enum QueueStrategy {
     /// The one that has been idle longest: all are used evenly.
@@ -57,6 +56,16 @@ pub enum QueueStrategy {
     Fifo,
     /// The one that became idle last: the others may reach their idle timeout.
     Lifo,
+}
+
+/// Which connections are checked before they are checked out.
+#[derive(Clone, Copy, Debug, PartialEq, Eq)]
+pub(crate) enum Checks {
+    /// All, by the manager or by their ages.
+    All,
+    Off,
+    /// Those that were idle for `test_on_check_out_after`: each try and return needs the clock.
+    Stale,
 }
 
 /// Builds a pool from settings and a manager. Each setter names its default.
@@ -118,7 +127,7 @@ impl Config {
         self.max_lifetime.is_some() || self.idle_timeout.is_some()
     }
 
-    /// Which connections are checked before they are checked out: all if each has an end of its
+    /// The connections that are checked before they are checked out: all if each has an end of its
     /// own.
     pub(crate) fn checks(&self) -> Checks {
         match (self.has_ends(), self.test_on_check_out) {
@@ -172,11 +181,11 @@ impl<M: ManageConnection> Builder<M> {
     }
 
     /// Sets for how long a connection has to be idle until it is checked. The default is zero, so
-    /// each connection is checked. A quarter of a second or a second saves a request to the server
-    /// in most gets of a busy pool. If the check is off, it does nothing.
+    /// each connection is checked. With 250 ms or 1 s, most gets of a busy pool need no request to
+    /// the server. Without `test_on_check_out` it does nothing.
     ///
-    /// So a get may return a connection that died since it was opened or returned. Each get and
-    /// each return reads the clock.
+    /// The price: a get may return a connection that died since it was opened or returned, and each
+    /// get and each return reads the clock.
     ///
     /// Exception: with [`Builder::max_lifetime_jitter`] it does nothing, and each connection is
     /// checked, so that none is checked out past its own end.
@@ -208,18 +217,16 @@ impl<M: ManageConnection> Builder<M> {
         self
     }
 
-    /// Sets by which share of `max_lifetime`, at most, the life of each connection is shortened at
+    /// Sets the largest share of `max_lifetime` by which each connection's life is shortened at
     /// random. The default is 0. With 0.2 and 30 minutes connections live for 24 to 30 minutes, so
     /// those that were opened together are not all replaced together. Without a `max_lifetime` it
-    /// does nothing. Panics if it is not from 0 to 1.
+    /// does nothing. Panics if it is below 0 or above 1.
     ///
-    /// A connection past its own end is closed when its guard is dropped, and counts in
-    /// `connections_closed_broken`. An idle one is closed when a get takes it out, as if its check
-    /// had failed, and counts in `connections_closed_invalid`. Each get and each return reads the
-    /// clock once more.
-    ///
-    /// Exception: the reaper compares with `max_lifetime` alone. So connections that no get takes
-    /// out are closed at that age, all in one reap if they were opened together.
+    /// The reaper closes each idle connection at its own end, which counts in
+    /// `connections_closed_max_lifetime`. A checked-out one past its end is closed when its guard
+    /// is dropped, and counts in `connections_closed_broken`. One that a get takes out before the
+    /// reaper runs counts in `connections_closed_invalid`. Each get and each return reads the clock
+    /// once more.
     ///
     /// # Examples
     ///
@@ -239,8 +246,8 @@ impl<M: ManageConnection> Builder<M> {
         self
     }
 
-    /// Sets after how long an idle connection is closed, by the next reap. The default is 10
-    /// minutes. As many as `min_idle` are kept. Panics if it is zero.
+    /// Sets how long a connection may be idle: the next reap after that closes it. The default is
+    /// 10 minutes. `min_idle` idle connections are kept. Panics if it is zero.
     pub fn idle_timeout(mut self, idle_timeout: impl Into<Option<Duration>>) -> Self {
         self.config.idle_timeout = idle_timeout.into();
         assert_above_zero(self.config.idle_timeout, "idle_timeout");
@@ -258,8 +265,8 @@ impl<M: ManageConnection> Builder<M> {
 
     /// Sets how long one connection attempt may take. The default is as long as
     /// `connection_timeout`. An attempt that takes longer is dropped, counts as failed, and is
-    /// retried as [`Builder::retry_connection`] says. So a server that accepts connections and
-    /// never answers does not hold the slots of the pool. Panics if it is zero.
+    /// retried if [`Builder::retry_connection`] is set. So a server that accepts connections and
+    /// never replies does not hold the slots of the pool. Panics if it is zero.
     ///
     /// Exception: [`Builder::build`] waits for its first connections without this limit, as it has
     /// no error for it.
@@ -270,7 +277,7 @@ impl<M: ManageConnection> Builder<M> {
     /// use std::time::Duration;
     /// # include!(concat!(env!("CARGO_MANIFEST_DIR"), "/tests/common/silent.rs"));
     /// # #[tokio::main] async fn main() {
-    /// // Over a server that accepts connections and never answers.
+    /// // Over a server that accepts connections and never replies.
     /// let pool = bb8::Pool::builder()
     ///     .connect_timeout(Duration::from_millis(20))
     ///     .build_unchecked(Silent::Connect);
@@ -284,7 +291,7 @@ impl<M: ManageConnection> Builder<M> {
         self
     }
 
-    /// Sets how long a check may take. The default is as long as its get has time. One that takes
+    /// Sets how long a check may take. By default only its get's time limits it. One that takes
     /// longer counts as failed: its connection is closed, and the get goes on with the next one.
     /// Panics if it is zero.
     ///
@@ -315,8 +322,8 @@ impl<M: ManageConnection> Builder<M> {
     /// The default is true. The pauses are 0.4 s, 0.8 s, 1.6 s and so on, at most half the
     /// `connection_timeout`.
     ///
-    /// Exception: as long as a get waits for it, an attempt is retried after that time, too, and if
-    /// the setting is off or the manager has panicked. So a get that outlives an outage is served.
+    /// Exception: as long as a get waits for it, an attempt is retried even after that time, if
+    /// this is false, or if the manager has panicked. So a get that outlives an outage is served.
     pub fn retry_connection(mut self, retry: bool) -> Self {
         self.config.retry_connection = retry;
         self
@@ -366,8 +373,8 @@ impl<M: ManageConnection> Builder<M> {
         self
     }
 
-    /// Sets after which wait a get is handed its connection directly, which prevents starvation. By
-    /// default this never happens. A millisecond is a good choice.
+    /// Sets how long a get waits before it is handed a connection directly, which prevents
+    /// starvation. By default this never happens. A millisecond is a good choice.
     ///
     /// By default a returned connection becomes idle, and the longest waiter is woken. A get that
     /// asks before the woken task runs takes the connection, and the woken get goes to the back of
@@ -377,9 +384,9 @@ impl<M: ManageConnection> Builder<M> {
     ///
     /// At zero, gets are served in the order of the queue. Exception: if a connection is closed
     /// instead of returned, the get for which another one is opened goes to the back. But a
-    /// returned connection is unused until the woken task runs, which costs a third to more than
-    /// half of all rounds if connections are held for microseconds. A millisecond costs none of
-    /// them, unless tasks compute for milliseconds without an await: then it costs up to a fifth.
+    /// returned connection is unused until the woken task runs. If connections are held for
+    /// microseconds, that costs a third to more than half of the throughput. A millisecond costs
+    /// none, unless tasks compute for milliseconds without an await: then it costs up to a fifth.
     ///
     /// A future that was handed a connection has to be polled or dropped. If it is kept without
     /// being polled, it keeps the connection, even from the task that owns it:
@@ -503,7 +510,7 @@ impl<M: ManageConnection> Builder<M> {
     ///
     /// # Errors
     ///
-    /// The last error of a connection that could not be opened. Then there is no pool.
+    /// The last error of the first connection that could not be opened. Then there is no pool.
     ///
     /// # Panics
     ///

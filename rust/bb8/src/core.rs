@@ -1,24 +1,22 @@
-//! The proved state machine over the connections of a pool, and what its results ask the pool to
-//! do.
+//! The proved state machine over the connections of a pool.
 
 pub(crate) use bb8_core::api::Moment;
 pub(crate) use bb8_core::internals::{
     AddAnswer, AtOnce, CheckedErrAnswer, CheckedOkAnswer, ClaimAnswer, ClosedList, DetachAnswer,
-    GetKey, GiveUpAnswer, Grant, Key, OpenedAnswer, PutBackAnswer, ReapAnswer, Reason, Started,
-    TryAnswer,
+    EvictAnswer, GetKey, GiveUpAnswer, Grant, Key, OpenedAnswer, PutBackAnswer, ReapAnswer, Reason,
+    Started, TryAnswer,
 };
 
 use crate::boxed::Boxed;
-use crate::builder::{Config, QueueStrategy};
-use crate::moments::Checks;
+use crate::builder::{Checks, Config, QueueStrategy};
 use bb8_core::api;
 #[cfg(not(test))]
 use bb8_core::internals::PoolInternals;
 use bb8_core::kit::Global;
 use std::time::Duration;
 
-/// A connection as the core holds it. `None` stands for one that was dropped before the core is
-/// told of its return; the core closes it, so it is never idle.
+/// A connection as the core holds it. `None` is one that was dropped before its return is
+/// reported to the core; the core closes it, so it is never idle.
 pub(crate) type Held<C> = Option<Boxed<C>>;
 
 /// The state machine of one pool.
@@ -53,11 +51,19 @@ pub(crate) fn core<C>(settings: &Config) -> Core<C> {
     Core::new(Global, config)
 }
 
-/// Panics because a step was refused: it names a get or a connection that the core does not have in
-/// that state. Only a bug in this crate leads here, and the step has changed nothing.
+/// Returns the result of a step that fits. Only a bug in this crate makes one that does not: it
+/// names a get or a connection that the core does not have in that state, and changes nothing.
+#[inline]
+pub(crate) fn fit<A, E>(result: Result<A, E>) -> A {
+    match result {
+        Ok(answer) => answer,
+        Err(_) => unfit(),
+    }
+}
+
 #[cold]
 pub(crate) fn unfit() -> ! {
-    panic!("the core refused a step of its own pool");
+    panic!("a step named a get or connection that the core does not have in that state");
 }
 
 /// A checked-out connection, and its key in the core.
@@ -72,103 +78,7 @@ impl<C> Checkout<C> {
     pub(crate) fn new(key: Key, conn: Held<C>) -> Self {
         match conn {
             Some(conn) => Checkout { conn, key },
-            None => unreachable!("an idle connection is there"),
+            None => unreachable!("the core holds the connections that are idle"),
         }
-    }
-}
-
-/// What is left to be done after a step.
-pub(crate) struct After<C> {
-    /// The connection that the step closed, to be dropped.
-    pub(crate) closed: Held<C>,
-    /// Whether the step granted approvals, for which connections are to be opened.
-    pub(crate) grants: bool,
-    /// The get that the step notified.
-    pub(crate) notified: Option<GetKey>,
-}
-
-/// What is left after a step that closed nothing. `None` if nothing is.
-#[inline]
-pub(crate) fn kept<C>(notified: Option<GetKey>) -> Option<After<C>> {
-    notified?;
-    Some(After {
-        closed: None,
-        grants: false,
-        notified,
-    })
-}
-
-#[inline]
-fn closed<C>(conn: Held<C>, grant: Grant, notified: Option<GetKey>) -> Option<After<C>> {
-    Some(After {
-        closed: conn,
-        grants: grant.count > 0,
-        notified,
-    })
-}
-
-/// The result of a step that may leave something to be done.
-pub(crate) trait Leaves<C> {
-    /// What is left. `None` if nothing is.
-    fn after(self) -> Option<After<C>>;
-}
-
-impl<C> Leaves<C> for PutBackAnswer<Held<C>> {
-    #[inline]
-    fn after(self) -> Option<After<C>> {
-        match self {
-            PutBackAnswer::Kept(notified) => kept(notified),
-            PutBackAnswer::Closed(conn, grant, notified) => closed(conn, grant, notified),
-        }
-    }
-}
-
-impl<C> Leaves<C> for CheckedErrAnswer<Held<C>> {
-    #[inline]
-    fn after(self) -> Option<After<C>> {
-        let CheckedErrAnswer::Closed(_, conn, grant, notified) = self;
-        closed(conn, grant, notified)
-    }
-}
-
-/// The connection is the pool's no more, so there is none to be dropped.
-impl<C> Leaves<C> for DetachAnswer {
-    #[inline]
-    fn after(self) -> Option<After<C>> {
-        let DetachAnswer::Detached(grant, notified) = self;
-        closed(None, grant, notified)
-    }
-}
-
-impl<C> Leaves<C> for GiveUpAnswer<Held<C>> {
-    #[inline]
-    fn after(self) -> Option<After<C>> {
-        match self {
-            GiveUpAnswer::GaveUp(notified) | GiveUpAnswer::Kept(_, notified) => kept(notified),
-            GiveUpAnswer::Closed(_, conn, grant, notified) => closed(conn, grant, notified),
-        }
-    }
-}
-
-impl<C> Leaves<C> for OpenedAnswer<Held<C>> {
-    #[inline]
-    fn after(self) -> Option<After<C>> {
-        match self {
-            OpenedAnswer::Entered(notified) => kept(notified),
-            OpenedAnswer::Late(conn) => Some(After {
-                closed: conn,
-                grants: false,
-                notified: None,
-            }),
-        }
-    }
-}
-
-/// Goes on after a step that fits.
-#[inline]
-pub(crate) fn after<C, A: Leaves<C>, U>(result: Result<A, U>) -> Option<After<C>> {
-    match result {
-        Ok(answer) => answer.after(),
-        Err(_) => unfit(),
     }
 }

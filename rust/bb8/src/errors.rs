@@ -22,11 +22,9 @@ use std::fmt;
 ///
 /// ```compile_fail
 /// # use bb8::RunError;
-/// fn name<E>(error: &RunError<E>) -> &str {
-///     match error {
-///         RunError::User(_) | RunError::TimedOut => "of bb8",
-///         RunError::Memory | RunError::Exhausted | RunError::Closed => "of this crate",
-///     }
+/// fn all<E>(error: RunError<E>) {
+///     use RunError::*;
+///     match error { User(_) | TimedOut | Memory | Exhausted | Closed => {} }
 /// }
 /// ```
 #[derive(Debug, Clone, PartialEq, Eq)]

@@ -14,14 +14,14 @@ pub struct State {
     pub idle_connections: u32,
     /// Connection attempts in progress. One that waits for its next try is in progress, too.
     pub pending_connections: u32,
-    /// What happened to the pool so far.
+    /// Counts of events since the pool was built.
     pub statistics: Statistics,
 }
 
-/// What happened to a pool since it was built.
+/// Counts of a pool's events since it was built.
 ///
 /// At every moment, `connections_created` plus `connections_added` equals `connections_closed` plus
-/// `connections_detached` plus [`State::connections`]. The figures by reason do not add up to
+/// `connections_detached` plus [`State::connections`]. The counts by reason do not add up to
 /// `connections_closed`: a connection may count in two of them (a failed check, and broken, past
 /// `max_lifetime` or retired), and one that [`Pool::close`](crate::Pool::close) or the last handle
 /// closed counts in none.
@@ -82,8 +82,8 @@ pub struct Statistics {
     /// Connections that were closed because their check failed or took longer than `test_timeout`,
     /// or because a get took them out past the end that `max_lifetime_jitter` gave them.
     pub connections_closed_invalid: u64,
-    /// Connections that were closed because of `max_lifetime`, and were not retired. With
-    /// `max_lifetime_jitter` most count as broken or invalid.
+    /// Connections that were closed because of `max_lifetime`, and were not retired: at that age,
+    /// or while idle at the end that `max_lifetime_jitter` gave them.
     pub connections_closed_max_lifetime: u64,
     /// Connections that were closed because of `idle_timeout`.
     pub connections_closed_idle_timeout: u64,
@@ -117,9 +117,9 @@ impl State {
     pub(crate) fn new(state: api::State, pending_connections: u32, counts: &Counts) -> Self {
         let figures = state.statistics;
         let opened = figures.connections_created.saturating_add(counts.added);
-        let left = figures
-            .connections_detached
-            .saturating_add(state.connections.into());
+        let detached = figures.connections_detached.saturating_sub(counts.expired);
+        let by_life = figures.connections_closed_max_lifetime;
+        let left = detached.saturating_add(state.connections.into());
         State {
             connections: state.connections,
             idle_connections: state.idle_connections,
@@ -137,10 +137,10 @@ impl State {
                 connections_closed: opened.saturating_sub(left),
                 connections_closed_broken: figures.connections_closed_broken,
                 connections_closed_invalid: figures.connections_closed_invalid,
-                connections_closed_max_lifetime: figures.connections_closed_max_lifetime,
+                connections_closed_max_lifetime: by_life.saturating_add(counts.expired),
                 connections_closed_idle_timeout: figures.connections_closed_idle_timeout,
                 connections_closed_retired: figures.connections_closed_retired,
-                connections_detached: figures.connections_detached,
+                connections_detached: detached,
                 checks_timed_out: counts.checks_timed_out,
             },
         }

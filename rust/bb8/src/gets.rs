@@ -12,9 +12,9 @@ impl<M: ManageConnection> Pool<M> {
     /// the guard is dropped.
     ///
     /// Waiting gets are woken in the order of a queue. By default, a get that asks before a woken
-    /// one is polled takes the connection: against starvation see
-    /// [`Builder::fair_after`](crate::Builder::fair_after). A get is cancelled by dropping its
-    /// future. What it was handed goes to the next one.
+    /// one is polled takes the connection: [`Builder::fair_after`](crate::Builder::fair_after)
+    /// prevents starvation. A get is cancelled by dropping its future. A connection handed off to
+    /// it goes to the next one.
     ///
     /// # Errors
     ///
@@ -70,8 +70,8 @@ impl<M: ManageConnection> Pool<M> {
     }
 
     /// As [`Pool::get`], with its errors, but with a time of its own, shorter or longer than
-    /// `connection_timeout`. If it is over, the get counts in `get_timed_out`. The connection
-    /// attempt that it may have requested goes on.
+    /// `connection_timeout`. If that time is over, the get counts in `get_timed_out`. The
+    /// connection attempt that it may have requested continues.
     ///
     /// A check that is cut off closes its connection, so a time shorter than a check takes costs
     /// connections: use [`Pool::try_get`] instead of a time of zero.

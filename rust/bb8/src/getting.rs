@@ -1,18 +1,16 @@
 //! One `get`: it tries, waits, checks the connection that it was handed, and ends.
 
 use crate::api::{Pool, PooledConnection};
-use crate::builder::Config;
+use crate::builder::{Checks, Config};
 use crate::core::{
-    after, unfit, CheckedOkAnswer, Checkout, Core, GetKey, Held, Key, Moment, Reason, Started,
-    TryAnswer,
+    fit, CheckedOkAnswer, Checkout, Core, GetKey, Held, Moment, Reason, Started, TryAnswer,
 };
 use crate::errors::RunError;
-use crate::events::{FAILED_CHECK, MAX_LIFETIME};
+use crate::events::MAX_LIFETIME;
 use crate::lock::MutexGuard;
 use crate::managers::ManageConnection;
-use crate::moments::Checks;
 use crate::pool::{Locked, Shared};
-use crate::returning::Fate;
+use crate::returning::{gave_up, Fate, Step};
 use crate::waiters::Handed;
 use std::future::{poll_fn, Future};
 use std::mem::{self, ManuallyDrop};
@@ -23,7 +21,7 @@ use std::time::Duration;
 use tokio::task::{unconstrained, yield_now};
 use tokio::time::{sleep_until, Instant, Sleep};
 
-/// How far a get has come. The core knows it from its begin to its end.
+/// How far a get has come. The core has an entry for it from `Begun` until `Ended`.
 #[derive(Clone, Copy, PartialEq, Eq)]
 enum Stage {
     New,
@@ -54,15 +52,15 @@ pub(crate) struct Getting<'a, M: ManageConnection> {
     key: GetKey,
     /// When it began. A get that is served at once never reads the clock.
     began: Option<Instant>,
-    /// The same as a moment of the core.
+    /// `began` as a moment of the core.
     since: Option<u64>,
     /// The connection that is being checked.
     held: Option<Checkout<M::Connection>>,
 }
 
 impl<M: ManageConnection> Pool<M> {
-    /// Checks a connection out, and returns the result for its guard. There is none if the time is
-    /// over, or if no connection is idle and the get does not wait.
+    /// Checks a connection out, and returns `result` of its guard. The guard is `None` if the time
+    /// is over, or if no connection is idle and the get does not wait.
     pub(crate) async fn checkout<'a, const WAITS: bool, T>(
         &'a self,
         limit: impl Limit,
@@ -125,6 +123,8 @@ impl<M: ManageConnection> Pool<M> {
     }
 }
 
+/// The name of a check in events.
+const CHECK: &str = "check of a connection";
 const HOLDS: &str = "a get that checks holds a connection";
 
 /// How long a get may take, by the settings of its pool.
@@ -132,8 +132,8 @@ pub(crate) trait Limit: Fn(&Config) -> Duration + Copy {}
 
 impl<F: Fn(&Config) -> Duration + Copy> Limit for F {}
 
-/// Returns when a get has to end, or its check that begins now and has a limit. There is no such
-/// instant if it is too late.
+/// Returns when a get has to end, or, if that is earlier, a check that begins now and has a limit.
+/// `None` if the clock cannot represent it.
 #[inline(always)]
 fn deadline(
     began: &mut Option<Instant>,
@@ -147,7 +147,7 @@ fn deadline(
     get_ends.into_iter().chain(check_ends).min()
 }
 
-/// Returns the timer of a get, which is only started here, when the get first has to wait.
+/// Returns the timer of a get. It is created here, when the get first has to wait.
 #[inline(always)]
 fn started(
     mut timer: Pin<&mut Option<Sleep>>,
@@ -159,7 +159,7 @@ fn started(
     timer.as_pin_mut()
 }
 
-/// Returns a timer. A call of its own: otherwise the timer, of 640 bytes, is copied once more.
+/// Returns a timer. Inlined, it would copy the timer, of 640 bytes, once more.
 #[inline(never)]
 fn sleeping(deadline: Instant) -> Option<Sleep> {
     Some(sleep_until(deadline))
@@ -222,7 +222,7 @@ impl<'a, M: ManageConnection> Getting<'a, M> {
         self.tried(locked, started, &mut None)
     }
 
-    /// As `try_at_once`, for a get that may have begun.
+    /// As `try_at_once`, but the get may have begun already.
     #[inline(never)]
     fn try_idle(&mut self) -> Option<Tried> {
         let at = self.shared.now_if(self.shared.checks == Checks::Stale);
@@ -233,10 +233,8 @@ impl<'a, M: ManageConnection> Getting<'a, M> {
         if locked.core.idle() == 0 {
             return None;
         }
-        match locked.core.try_get(Moment(at), self.key) {
-            Ok(answer) => self.tried(locked, Ok(answer), &mut None),
-            Err(_) => unfit(),
-        }
+        let answer = fit(locked.core.try_get(Moment(at), self.key));
+        self.tried(locked, Ok(answer), &mut None)
     }
 
     /// Resolves once the get has a connection, its time is over, or it could not begin.
@@ -283,10 +281,8 @@ impl<'a, M: ManageConnection> Getting<'a, M> {
             return Some(self.take(handed));
         }
         _removed = locked.waiters.remove(self.key);
-        match locked.core.try_get(Moment(at), self.key) {
-            Ok(answer) => self.tried(locked, Ok(answer), waker),
-            Err(_) => unfit(),
-        }
+        let answer = fit(locked.core.try_get(Moment(at), self.key));
+        self.tried(locked, Ok(answer), waker)
     }
 
     /// Returns the moment at which the get began.
@@ -365,8 +361,8 @@ impl<'a, M: ManageConnection> Getting<'a, M> {
         (!self.shared.settings.config.test_on_check_out).then_some(true)
     }
 
-    /// Returns whether the check was passed, and closes the connection if not. There is no result
-    /// if a time was over; if it was that of the get, the get ends next.
+    /// Returns whether the check passed, and closes the connection if not. `checked` is `None` if
+    /// the check was cut off. Exception: if the get's own time is over, its end closes it.
     #[inline(always)]
     fn conclude(&mut self, checked: Option<Result<(), M::Error>>, limit: impl Limit) -> bool {
         match checked {
@@ -378,7 +374,7 @@ impl<'a, M: ManageConnection> Getting<'a, M> {
         false
     }
 
-    /// Ends as served. The core knows that already.
+    /// Ends a get that the core has served, and returns its connection.
     #[inline(always)]
     fn served(self) -> Checkout<M::Connection> {
         let mut ended = ManuallyDrop::new(self);
@@ -386,7 +382,7 @@ impl<'a, M: ManageConnection> Getting<'a, M> {
         ended.held.take().expect(HOLDS)
     }
 
-    /// Is served with the connection, which passed its check.
+    /// Reports to the core that the check passed, and returns the connection.
     #[inline(always)]
     fn pass(self) -> Checkout<M::Connection> {
         let mut ended = ManuallyDrop::new(self);
@@ -395,19 +391,16 @@ impl<'a, M: ManageConnection> Getting<'a, M> {
         let at = shared.now_if(ended.stage == Stage::Waited);
         let mut checkout = ended.held.take().expect(HOLDS);
         let mut locked = shared.lock();
-        let passed = locked
-            .core
-            .checked_ok(Moment(at), ended.key, checkout.key.place);
+        let (at, get) = (Moment(at), ended.key);
+        let passed = locked.core.checked_ok(at, get, checkout.key.place);
         drop(locked);
-        let Ok(CheckedOkAnswer::Served(key)) = passed else {
-            unfit();
-        };
+        let CheckedOkAnswer::Served(key) = fit(passed);
         checkout.key = key;
         shared.served(ended.began);
         checkout
     }
 
-    /// Whether its time is over.
+    /// Returns whether the get's time is over.
     fn is_over(&mut self, limit: impl Limit) -> bool {
         let began = *self.began.get_or_insert_with(Instant::now);
         began.elapsed() >= limit(&self.shared.settings.config)
@@ -426,8 +419,8 @@ impl<'a, M: ManageConnection> Getting<'a, M> {
         if error.is_none() {
             self.shared.lock().counts.checks_timed_out += 1;
         }
-        self.shared.check_failed(error.as_ref());
-        self.close_as(FAILED_CHECK);
+        self.shared.failed(CHECK, error.as_ref());
+        self.close_as("its check failed");
         self.shared.forward(error);
     }
 
@@ -436,12 +429,8 @@ impl<'a, M: ManageConnection> Getting<'a, M> {
         let Some(checkout) = self.held.take() else {
             return;
         };
-        let get = self.key;
-        let step = |core: &mut Core<_>, at, key: Key, conn, broken| {
-            after(core.checked_err(at, get, conn, broken, key.place))
-        };
-        let fate = Fate::Closed(reason);
-        self.shared.take_back(checkout, fate, Shared::now, step);
+        let step = Step::CheckFailed(self.key);
+        self.shared.take_back(checkout, Fate::Closed(reason), step);
     }
 
     /// Ends without a connection, unless it was served since its last try. If that cuts off a
@@ -460,29 +449,29 @@ impl<'a, M: ManageConnection> Getting<'a, M> {
                 _removed = locked.waiters.remove(self.key);
                 self.stage = Stage::Ended;
                 let given_up = locked.core.give_up(Moment(at), self.key, reason, false);
-                self.shared.settle(locked, at, after(given_up));
+                self.shared.settle(locked, at, gave_up(fit(given_up)));
                 return None;
             };
             drop(locked);
             if let Tried::Served = self.take(handed) {
                 return self.held.take();
             }
-            // No check has begun. Exception: where fresh connections are not checked, this one
-            // would be checked out as a fresh one next, so the core closes it.
-            if self.shared.checks != Checks::Stale {
+            // No check has begun, so the connection is kept. Exceptions: if fresh connections are
+            // not checked, this one would be checked out as a fresh one next; and nothing else
+            // closes an idle connection whose own end has passed.
+            let held = self.held.as_ref();
+            let is_past_end = held.is_some_and(|it| self.shared.is_past_end(&it.conn));
+            if self.shared.checks != Checks::Stale && !is_past_end {
                 fate = Fate::Kept;
             }
         } else if let Reason::TimedOut = reason {
             self.shared.lock().counts.checks_timed_out += 1;
-            self.shared.check_failed(None);
+            self.shared.failed(CHECK, None);
         }
         self.stage = Stage::Ended;
         let checkout = self.held.take()?;
-        let get = self.key;
-        let step = |core: &mut Core<_>, at, key: Key, conn, broken| {
-            after(core.give_back(at, get, reason, conn, broken, key.place))
-        };
-        self.shared.take_back(checkout, fate, Shared::now, step);
+        let step = Step::GiveBack(self.key, reason);
+        self.shared.take_back(checkout, fate, step);
         None
     }
 }
@@ -496,7 +485,7 @@ impl<M: ManageConnection> Drop for Getting<'_, M> {
         if matches!(self.stage, Stage::New | Stage::Ended) {
             return;
         }
-        // If it was served meanwhile, nobody takes the connection.
+        // If it was served meanwhile, its connection is returned.
         if let Some(checkout) = self.end(Reason::Cancelled) {
             self.shared.put_back(checkout);
         }

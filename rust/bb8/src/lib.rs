@@ -6,9 +6,11 @@
 #![forbid(unsafe_code)]
 
 mod api;
+mod attempt;
 mod boxed;
 mod builder;
 mod core;
+mod ends;
 mod errors;
 mod events;
 mod figures;
@@ -16,8 +18,6 @@ mod gets;
 mod getting;
 mod lock;
 mod managers;
-mod moments;
-mod opening;
 mod pool;
 mod returning;
 #[cfg(test)]

@@ -1,33 +1,33 @@
-//! What the handles of a pool share: a lock around the core and the waiters, and what acquires it,
-//! apart from gets and connection attempts.
+//! The state that the handles of a pool share: a lock around the core and the waiters, and the
+//! calls that acquire it, apart from gets and connection attempts.
 
+use crate::attempt::{Attempt, Claimed};
 use crate::boxed::{Boxed, Reserved};
-use crate::builder::Builder;
+use crate::builder::{Builder, Checks};
 use crate::core::{
-    self, unfit, AddAnswer, AtOnce, Checkout, ClaimAnswer, ClosedList, Core, GetKey, Held, Key,
-    Moment, ReapAnswer, TryAnswer,
+    self, unfit, AddAnswer, AtOnce, Checkout, ClaimAnswer, ClosedList, Core, EvictAnswer, GetKey,
+    Held, Key, Moment, ReapAnswer, TryAnswer,
 };
+use crate::ends::Ends;
 use crate::errors::AddError;
 use crate::events::{CLOSED, IDLE_TIMEOUT, RETIRED};
 use crate::figures::State;
 use crate::lock::{Mutex, MutexGuard};
 use crate::managers::ManageConnection;
-use crate::moments::{nanoseconds, Checks};
-use crate::opening::{Claimed, Opening};
+use crate::returning::{closed, kept, resume};
 use crate::waiters::{Handed, Waiters};
 use bb8_core::kit::Global;
 use futures_util::stream::{FuturesUnordered, StreamExt};
-use std::any::Any;
-use std::panic::resume_unwind;
+use std::panic::{catch_unwind, AssertUnwindSafe};
 use std::sync::{Arc, Weak};
 use std::task::Waker;
 use std::time::Duration;
 use std::{iter, mem, thread};
 use tokio::runtime::Handle;
 use tokio::sync::Notify;
-use tokio::time::{interval_at, sleep, Instant, Interval, MissedTickBehavior};
+use tokio::time::{interval_at, sleep, timeout, Instant, Interval, MissedTickBehavior};
 
-/// What the lock protects.
+/// The state that the lock protects.
 pub(crate) struct Locked<C> {
     pub(crate) core: Core<C>,
     /// The connections that a step closed all at once, until they are dropped.
@@ -42,14 +42,17 @@ pub(crate) struct Locked<C> {
     /// How many closed connections are being dropped. Their slots are free in the core already.
     pub(crate) dropping: u32,
     pub(crate) counts: Counts,
+    pub(crate) ends: Ends,
 }
 
-/// What the core does not count.
+/// The statistics that the core does not count.
 #[derive(Default)]
 pub(crate) struct Counts {
     pub(crate) added: u64,
     pub(crate) failed: u64,
     pub(crate) checks_timed_out: u64,
+    /// Idle connections that were closed at their own ends. The core counts them as detached.
+    pub(crate) expired: u64,
 }
 
 /// A step that closes idle connections.
@@ -69,9 +72,9 @@ impl<C> Locked<C> {
         (waker, grant.count > 0)
     }
 
-    /// Makes room in the list of closed connections for those that are idle. Returns false if
+    /// Reserves capacity for the idle connections in the list of closed ones. Returns false if
     /// memory is refused.
-    fn has_room(&mut self) -> bool {
+    fn has_capacity(&mut self) -> bool {
         let more = self.core.idle() as usize;
         self.closed.grow(self.closed.len() + more).is_ok()
     }
@@ -85,7 +88,7 @@ impl<C> Locked<C> {
     /// Closes the pool, and with it the idle connections. Returns false if memory for the list of
     /// closed connections is refused: then nothing changes.
     fn close(&mut self, at: u64) -> bool {
-        let closes = !self.is_closed() && self.has_room();
+        let closes = !self.is_closed() && self.has_capacity();
         if closes {
             self.core.close_into(Moment(at), &mut self.closed);
         }
@@ -112,7 +115,7 @@ impl<C> Locked<C> {
     }
 
     /// Claims an approval, so that one more connection may be opened. Closed connections count
-    /// until they are dropped, so that no more than `max_size` are ever alive.
+    /// until they are dropped, so that no attempt brings more than `max_size`.
     pub(crate) fn claim(&mut self, at: u64, max_size: u32) -> Option<Key> {
         if self.is_dropping() {
             let alive = self.core.state(Moment(at)).connections + self.pending + self.dropping;
@@ -129,20 +132,21 @@ impl<C> Locked<C> {
     }
 }
 
-/// What the handles, gets and connection attempts of a pool share.
+/// The state that the handles, gets and connection attempts of a pool share.
 pub(crate) struct Shared<M: ManageConnection> {
     pub(crate) settings: Builder<M>,
     pub(crate) manager: M,
     /// The moment from which the core's moments count.
     pub(crate) started: Instant,
-    /// Whether the core needs the moment of a return: for ages, or for how long a get has waited.
+    /// Whether the core needs the moment of a return: for ages, for how long a connection has been
+    /// idle, or for how long a get has waited.
     pub(crate) dates_returns: bool,
     pub(crate) checks: Checks,
     /// Whether each connection has an end of its own.
     pub(crate) has_ends: bool,
-    /// Whether more than the manager looks at returned connections.
+    /// Whether returned connections are passed to the customizer or compared with their ends.
     pub(crate) inspects: bool,
-    /// After which wait a get is handed a connection.
+    /// How long a get waits before it is handed a connection directly, in nanoseconds.
     pub(crate) fair_after: Option<u64>,
     /// Notifies all that wait until the pool is closed, or until nothing of a closed pool is left.
     pub(crate) closing: Notify,
@@ -150,7 +154,7 @@ pub(crate) struct Shared<M: ManageConnection> {
 }
 
 impl<M: ManageConnection> Shared<M> {
-    /// What a pool with these settings shares, which the builder has tested.
+    /// Returns the shared state of a pool with these settings, which the builder has tested.
     fn new(settings: Builder<M>, manager: M) -> Self {
         let config = &settings.config;
         let hands_off = config.fair_after.is_some();
@@ -172,6 +176,7 @@ impl<M: ManageConnection> Shared<M> {
                 pending: 0,
                 dropping: 0,
                 counts: Counts::default(),
+                ends: Ends::default(),
             }),
             settings,
             manager,
@@ -183,11 +188,30 @@ impl<M: ManageConnection> Shared<M> {
         self.locked.lock()
     }
 
-    /// Gives a new connection an end of its own, if connections have one.
-    pub(crate) fn set_end(&self, conn: &mut Boxed<M::Connection>, at: u64) {
-        if let Some(life) = self.settings.config.life() {
-            conn.set_end(at.saturating_add(nanoseconds(life)));
+    /// Returns the core's moment of an instant: the nanoseconds since the pool started.
+    pub(crate) fn moment(&self, instant: Instant) -> u64 {
+        nanoseconds(instant.saturating_duration_since(self.started))
+    }
+
+    pub(crate) fn now(&self) -> u64 {
+        self.moment(Instant::now())
+    }
+
+    /// Returns the current moment if it matters, else 0 without reading the clock.
+    #[inline]
+    pub(crate) fn now_if(&self, matters: bool) -> u64 {
+        if matters {
+            self.now()
+        } else {
+            0
         }
+    }
+
+    /// Gives a new connection an end of its own, if connections have one.
+    pub(crate) fn set_end(&self, conn: &mut Boxed<M::Connection>, at: u64) -> Option<u64> {
+        let end = at.saturating_add(nanoseconds(self.settings.config.life()?));
+        conn.set_end(end);
+        Some(end)
     }
 
     /// Whether a connection is past its own end.
@@ -241,7 +265,7 @@ impl<M: ManageConnection> Shared<M> {
     pub(crate) async fn start(self: &Arc<Self>) -> Result<(), M::Error> {
         let at = self.now();
         self.lock().core.fill(Moment(at), false);
-        let attempts = iter::from_fn(|| Opening::claim(self)).map(|it| it.run(Duration::MAX));
+        let attempts = iter::from_fn(|| Attempt::claim(self)).map(|it| it.run(Duration::MAX));
         let mut attempts: FuturesUnordered<_> = attempts.collect();
         while let Some(opened) = attempts.next().await {
             if let Err(Some(error)) = opened {
@@ -258,47 +282,70 @@ impl<M: ManageConnection> Shared<M> {
         self.open();
     }
 
+    /// Adds a connection, or returns it with the reason.
     pub(crate) fn add(
         self: &Arc<Self>,
         mut conn: M::Connection,
     ) -> Result<(), AddError<M::Connection>> {
-        let broken = self.manager.has_broken(&mut conn);
+        if self.manager.has_broken(&mut conn) {
+            return Err(AddError::Broken(conn));
+        }
         let Some(reserved) = Reserved::new() else {
-            return Err(if broken {
-                AddError::Broken(conn)
-            } else {
-                AddError::Withheld(conn)
-            });
+            return Err(AddError::Withheld(conn));
         };
         let mut conn = reserved.fill(conn);
         let at = self.now();
-        self.set_end(&mut conn, at);
+        let end = self.set_end(&mut conn, at);
         let mut locked = self.lock();
-        let (refused, conn): (fn(_) -> _, _) = match locked.core.add(Moment(at), Some(conn), broken)
+        let (refused, conn): (fn(_) -> _, _) = match locked.core.add(Moment(at), Some(conn), false)
         {
-            Ok(AddAnswer::Added(_, notified)) => {
+            Ok(AddAnswer::Added(key, notified)) => {
                 locked.counts.added += 1;
-                self.settle(locked, at, core::kept(notified));
+                if let Some(end) = end {
+                    locked.ends.note(key, end);
+                }
+                self.settle(locked, at, kept(notified));
                 return Ok(());
             }
-            Ok(AddAnswer::Broken(conn)) => (AddError::Broken, conn),
-            Ok(AddAnswer::NoCapacity(conn)) => (AddError::NoCapacity, conn),
             Ok(AddAnswer::Withheld(conn)) => (AddError::Withheld, conn),
-            // The pool is closed.
-            Err(conn) if broken => (AddError::Broken, conn),
-            Err(conn) => (AddError::NoCapacity, conn),
+            // A closed pool has no capacity either. The core was told that it is not broken.
+            Ok(AddAnswer::NoCapacity(conn) | AddAnswer::Broken(conn)) | Err(conn) => {
+                (AddError::NoCapacity, conn)
+            }
         };
         drop(locked);
         match conn {
             Some(conn) => Err(refused(Boxed::into_inner(conn))),
-            None => unreachable!("the core returns what it was handed"),
+            None => unreachable!("the core returns the connection that it refused"),
         }
     }
 
     /// Reaps. If memory to list the connections is refused, the next reap closes them.
     pub(crate) fn reap(self: &Arc<Self>) {
-        // The panic hook has reported panics there. They do not end the reaper.
+        // The panic hook has reported a panic of a destructor. It does not end the reaper.
         let _panicked = self.sweep(Core::reap_into, IDLE_TIMEOUT);
+    }
+
+    /// Closes the idle connections that are past their own ends, one by one. Returns the time until
+    /// the next end of another connection.
+    fn expire(self: &Arc<Self>) -> Duration {
+        let (at, mut index) = (self.now(), 0);
+        loop {
+            let mut locked = self.lock();
+            let Some(key) = locked.ends.take_past(index, at) else {
+                return Duration::from_nanos(locked.ends.next().saturating_sub(at));
+            };
+            index = key.place + 1;
+            // One that is checked out is closed when it is returned.
+            if let Ok(EvictAnswer::Evicted(conn, grant, notified)) =
+                locked.core.evict(Moment(at), key)
+            {
+                locked.counts.expired += 1;
+                let settle = || self.settle(locked, at, closed(conn, grant, notified));
+                // As in a reap, a panic of the destructor does not end the reaper.
+                let _panicked = catch_unwind(AssertUnwindSafe(settle));
+            }
+        }
     }
 
     /// Retires all connections. If memory to list the idle ones is refused, nothing changes.
@@ -308,14 +355,10 @@ impl<M: ManageConnection> Shared<M> {
 
     /// Reaps or retires, drops the closed connections, and opens others. Returns the first panic of
     /// a destructor.
-    fn sweep(
-        self: &Arc<Self>,
-        sweep: Sweep<M::Connection>,
-        reason: &str,
-    ) -> Result<(), Box<dyn Any + Send>> {
+    fn sweep(self: &Arc<Self>, sweep: Sweep<M::Connection>, reason: &str) -> thread::Result<()> {
         let at = self.now();
         let mut locked = self.lock();
-        if locked.has_room() {
+        if locked.has_capacity() {
             let locked = &mut *locked;
             let answer = sweep(&mut locked.core, Moment(at), &mut locked.closed);
             locked.unopened |=
@@ -370,7 +413,7 @@ impl<M: ManageConnection> Shared<M> {
 
     /// Opens connections for all approvals that are unclaimed, or whose attempts were cut off, each
     /// in a task of its own. A runtime that shuts down drops such a task at once, which cuts its
-    /// attempt off anew: so those that were cut off before are taken in one piece.
+    /// attempt off again. So those that were cut off before are taken all at once.
     #[cold]
     pub(crate) fn open(self: &Arc<Self>) {
         let Ok(runtime) = Handle::try_current() else {
@@ -385,30 +428,28 @@ impl<M: ManageConnection> Shared<M> {
                 mem::swap(&mut cut_off, &mut locked.cut_off);
             }
         }
-        let again = cut_off.into_iter().map(|it| Opening::again(self, it));
-        for opening in again.chain(iter::from_fn(|| Opening::claim(self))) {
-            runtime.spawn(opening.run_alone());
+        let again = cut_off.into_iter().map(|it| Attempt::again(self, it));
+        for attempt in again.chain(iter::from_fn(|| Attempt::claim(self))) {
+            runtime.spawn(attempt.run_alone());
         }
     }
 }
 
-/// Goes on after destructors of connections.
-pub(crate) fn resume(dropped: Result<(), Box<dyn Any + Send>>) {
-    match dropped {
-        // Beside another panic it would end the process.
-        Err(panicked) if !thread::panicking() => resume_unwind(panicked),
-        _ => {}
-    }
+/// Returns a span in nanoseconds, at most `u64::MAX`.
+fn nanoseconds(span: Duration) -> u64 {
+    let seconds = span.as_secs().saturating_mul(1_000_000_000);
+    seconds.saturating_add(u64::from(span.subsec_nanos()))
 }
 
-/// Closes the pool when its last handle is dropped: all handles share this. If memory to list the
-/// idle connections is refused, they are dropped with the last connection attempt.
+/// The owner that all handles share: its drop closes the pool. If memory to list the idle
+/// connections is refused, they are dropped once the last connection attempt has ended.
 pub(crate) struct Owner<M: ManageConnection> {
     pub(crate) shared: Arc<Shared<M>>,
 }
 
 impl<M: ManageConnection> Owner<M> {
-    /// Makes a pool of settings that the builder has tested. It reaps if an age is limited.
+    /// Returns a pool with settings that the builder has tested, and starts its reaper if an age is
+    /// limited.
     pub(crate) fn new(settings: Builder<M>, manager: M) -> Arc<Self> {
         let has_limits = settings.config.has_limits();
         let rate = settings.config.reaper_rate;
@@ -429,12 +470,18 @@ impl<M: ManageConnection> Drop for Owner<M> {
     }
 }
 
-/// Reaps at each tick, until the pool is closed.
+/// Reaps at each tick, and closes each idle connection at its own end, until the pool is closed.
 async fn reap<M: ManageConnection>(mut ticks: Interval, owner: Weak<Owner<M>>) {
+    let mut pause = ticks.period();
     loop {
-        ticks.tick().await;
+        let is_tick = timeout(pause, ticks.tick()).await.is_ok();
         match owner.upgrade() {
-            Some(owner) if !owner.shared.is_closed() => owner.shared.reap(),
+            Some(owner) if !owner.shared.is_closed() => {
+                if is_tick {
+                    owner.shared.reap();
+                }
+                pause = owner.shared.expire();
+            }
             _ => return,
         }
     }

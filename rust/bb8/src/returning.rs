@@ -1,61 +1,104 @@
-//! The return of connections, and what follows a step: a get is woken or handed a connection,
-//! connections are opened or dropped. User code runs outside of the lock, and may panic.
+//! The return of connections, and the work after a step: a get is woken or handed a connection,
+//! connections are opened or dropped. User code runs outside the lock, and may panic.
 
 use crate::boxed::Boxed;
-use crate::core::{after, After, Checkout, Core, GetKey, Held, Key, Moment};
-use crate::events::{MAX_LIFETIME, NOT_KEPT};
+use crate::core::{
+    fit, CheckedErrAnswer, Checkout, DetachAnswer, GetKey, GiveUpAnswer, Grant, Held, Key, Moment,
+    PutBackAnswer, Reason,
+};
+use crate::events::{report, CLOSED, MAX_LIFETIME, RETIRED};
 use crate::lock::MutexGuard;
 use crate::managers::ManageConnection;
-use crate::pool::{resume, Locked, Shared};
-use std::any::Any;
-use std::mem::ManuallyDrop;
-use std::panic::{catch_unwind, AssertUnwindSafe};
+use crate::pool::{Locked, Shared};
+use std::mem::forget;
+use std::panic::{catch_unwind, resume_unwind, AssertUnwindSafe};
 use std::sync::Arc;
 use std::task::Waker;
+use std::thread;
 
-/// A step that returns the connection with this key, unless it was dropped, broken or not.
-pub(crate) trait HandsIn<C>:
-    FnOnce(&mut Core<C>, Moment, Key, Held<C>, bool) -> Left<C>
-{
+/// The work that is left after a step.
+pub(crate) struct After<C> {
+    /// The connection that the step closed, to be dropped.
+    pub(crate) closed: Held<C>,
+    /// Whether the step granted approvals, for which connections are to be opened.
+    pub(crate) grants: bool,
+    /// The get that the step notified.
+    pub(crate) notified: Option<GetKey>,
 }
 
-impl<C, F: FnOnce(&mut Core<C>, Moment, Key, Held<C>, bool) -> Left<C>> HandsIn<C> for F {}
+/// Returns the work after a step that closed nothing, or `None` if there is none.
+#[inline]
+pub(crate) fn kept<C>(notified: Option<GetKey>) -> Option<After<C>> {
+    notified?;
+    Some(After {
+        closed: None,
+        grants: false,
+        notified,
+    })
+}
 
-type Left<C> = Option<After<C>>;
+/// Returns the work after a step that closed this connection.
+#[inline]
+pub(crate) fn closed<C>(
+    closed: Held<C>,
+    grant: Grant,
+    notified: Option<GetKey>,
+) -> Option<After<C>> {
+    Some(After {
+        closed,
+        grants: grant.count > 0,
+        notified,
+    })
+}
 
-/// The step that reports the return of a connection to the core. If this is dropped, the step is
-/// made without the connection, which is gone: otherwise its slot would leak.
-struct Owed<'a, M: ManageConnection, S: HandsIn<M::Connection>> {
+/// Returns the work after a guard was dropped.
+#[inline]
+fn put_back<C>(answer: PutBackAnswer<Held<C>>) -> Option<After<C>> {
+    match answer {
+        PutBackAnswer::Kept(notified) => kept(notified),
+        PutBackAnswer::Closed(conn, grant, notified) => closed(conn, grant, notified),
+    }
+}
+
+/// Returns the work after a get has ended without a connection.
+#[inline]
+pub(crate) fn gave_up<C>(answer: GiveUpAnswer<Held<C>>) -> Option<After<C>> {
+    match answer {
+        GiveUpAnswer::GaveUp(notified) | GiveUpAnswer::Kept(_, notified) => kept(notified),
+        GiveUpAnswer::Closed(_, conn, grant, notified) => closed(conn, grant, notified),
+    }
+}
+
+/// The step that returns a checked-out connection to the core.
+#[derive(Clone, Copy)]
+pub(crate) enum Step {
+    /// A guard is dropped.
+    PutBack,
+    /// The check of this get failed.
+    CheckFailed(GetKey),
+    /// This get ends without a connection.
+    GiveBack(GetKey, Reason),
+}
+
+/// A step that still has to return a connection to the core. If this is dropped, the step is made
+/// without the connection, which was dropped: otherwise its slot would leak.
+struct Owed<'a, M: ManageConnection> {
     shared: &'a Arc<Shared<M>>,
     key: Key,
     broken: bool,
-    clock: fn(&Shared<M>) -> u64,
-    step: Option<S>,
+    step: Step,
 }
 
-impl<M: ManageConnection, S: HandsIn<M::Connection>> Owed<'_, M, S> {
-    /// Makes the step.
-    #[inline(always)]
-    fn tell(&mut self, conn: Held<M::Connection>) {
-        let Some(step) = self.step.take() else {
-            return;
-        };
-        let at = (self.clock)(self.shared);
-        let mut locked = self.shared.lock();
-        let after = step(&mut locked.core, Moment(at), self.key, conn, self.broken);
-        self.shared.settle(locked, at, after);
-    }
-}
-
-impl<M: ManageConnection, S: HandsIn<M::Connection>> Drop for Owed<'_, M, S> {
+impl<M: ManageConnection> Drop for Owed<'_, M> {
     #[cold]
     fn drop(&mut self) {
-        self.tell(None);
-        self.shared.closing.notify_waiters();
+        let shared = self.shared;
+        shared.make(self.step, self.key, None, self.broken);
+        shared.closing.notify_waiters();
     }
 }
 
-/// What becomes of a connection that is returned.
+/// The fate of a returned connection.
 #[derive(Clone, Copy, PartialEq, Eq)]
 pub(crate) enum Fate {
     /// It is kept unless it is broken, the customizer does not keep it, or it is past its own end.
@@ -69,7 +112,7 @@ pub(crate) enum Fate {
 }
 
 impl<M: ManageConnection> Shared<M> {
-    /// Returns a connection that a guard had.
+    /// Returns a guard's connection to the pool.
     #[inline]
     pub(crate) fn release(self: &Arc<Self>, checkout: Checkout<M::Connection>) {
         if self.inspects {
@@ -79,87 +122,101 @@ impl<M: ManageConnection> Shared<M> {
         }
     }
 
-    /// Returns a connection that needs no inspection.
+    /// Returns a connection to the pool without an inspection.
     #[inline]
     pub(crate) fn put_back(self: &Arc<Self>, checkout: Checkout<M::Connection>) {
-        self.put_back_as(checkout, Fate::Kept);
+        self.take_back(checkout, Fate::Kept, Step::PutBack);
     }
 
-    /// Inspects and returns a connection that a guard had.
+    /// Inspects a connection, and returns it to the pool unless it is to be closed.
     #[inline(never)]
     fn inspect(self: &Arc<Self>, checkout: Checkout<M::Connection>) {
-        self.put_back_as(checkout, Fate::Released);
+        self.take_back(checkout, Fate::Released, Step::PutBack);
     }
 
-    #[inline(always)]
-    fn put_back_as(self: &Arc<Self>, checkout: Checkout<M::Connection>, fate: Fate) {
-        let step =
-            |core: &mut Core<_>, at, key, conn, broken| after(core.put_back(at, key, conn, broken));
-        self.take_back(checkout, fate, |it| it.now_if(it.dates_returns), step);
-    }
-
-    /// Returns a checked-out connection by a step, at the moment of the clock. If it is not kept,
-    /// or if the manager or the customizer panics, it is dropped before the core frees its slot,
-    /// and counts as broken.
+    /// Returns a checked-out connection by a step. If it is not kept, or if the manager or the
+    /// customizer panics, it is dropped before the core frees its slot, and counts as broken.
     #[inline]
     pub(crate) fn take_back(
         self: &Arc<Self>,
         checkout: Checkout<M::Connection>,
         fate: Fate,
-        clock: fn(&Shared<M>) -> u64,
-        step: impl HandsIn<M::Connection>,
+        step: Step,
     ) {
-        // It is dropped after the connection.
+        let key = checkout.key;
         let mut owed = Owed {
             shared: self,
-            key: checkout.key,
+            key,
             broken: true,
-            clock,
-            step: Some(step),
+            step,
         };
+        // Declared after `owed`, so that it is dropped first.
         let mut conn = checkout.conn;
         let is_broken = fate == Fate::CutOff || self.manager.has_broken(&mut conn);
-        owed.broken = is_broken;
         let reason = match fate {
             Fate::Closed(reason) => Some(reason),
-            Fate::Released if !is_broken => {
-                // It counts as broken if this panics, too.
-                owed.broken = true;
-                let reason = self.inspected(&mut conn);
-                owed.broken = reason.is_some();
-                reason
-            }
+            Fate::Released if !is_broken => self.inspected(&mut conn),
             _ => None,
         };
+        owed.broken = is_broken || fate == Fate::Released && reason.is_some();
         match reason {
-            _ if is_broken => self.broken(&conn),
+            _ if is_broken => report!(warn, self, age = ?conn.age(), "broken connection closed"),
             Some(reason) => self.closed(&conn, reason),
-            None => ManuallyDrop::new(owed).tell(Some(conn)),
+            None => {
+                forget(owed);
+                self.make(step, key, Some(conn), false);
+            }
         }
     }
 
-    /// Returns why a connection is closed that a guard returns and that is not broken.
+    /// Makes the step that returns a connection. It is `None` if it was dropped.
+    #[inline(always)]
+    fn make(self: &Arc<Self>, step: Step, key: Key, conn: Held<M::Connection>, broken: bool) {
+        let at = match step {
+            Step::PutBack => self.now_if(self.dates_returns),
+            _ => self.now(),
+        };
+        let moment = Moment(at);
+        let mut locked = self.lock();
+        let core = &mut locked.core;
+        let after = match step {
+            Step::PutBack => put_back(fit(core.put_back(moment, key, conn, broken))),
+            Step::CheckFailed(get) => {
+                let answer = fit(core.checked_err(moment, get, conn, broken, key.place));
+                let CheckedErrAnswer::Closed(_, conn, grant, notified) = answer;
+                closed(conn, grant, notified)
+            }
+            Step::GiveBack(get, reason) => {
+                let answer = core.give_back(moment, get, reason, conn, broken, key.place);
+                gave_up(fit(answer))
+            }
+        };
+        self.settle(locked, at, after);
+    }
+
+    /// Returns the reason to close an unbroken connection that a guard returns, if there is one.
     fn inspected(&self, conn: &mut Boxed<M::Connection>) -> Option<&'static str> {
         let customizer = &self.settings.connection_customizer;
         if customizer.as_ref().is_some_and(|it| !it.on_release(conn)) {
-            return Some(NOT_KEPT);
+            return Some("on_release returned false");
         }
         self.is_past_end(conn).then_some(MAX_LIFETIME)
     }
 
-    /// Takes a connection that a guard had out of the pool.
+    /// Takes a guard's connection out of the pool.
     pub(crate) fn detach(self: &Arc<Self>, checkout: Checkout<M::Connection>) -> M::Connection {
         let at = self.now_if(self.dates_returns);
         let mut locked = self.lock();
-        let detached = locked.core.detach(Moment(at), checkout.key);
-        self.settle(locked, at, after(detached));
+        let detached = fit(locked.core.detach(Moment(at), checkout.key));
+        let DetachAnswer::Detached(grant, notified) = detached;
+        self.settle(locked, at, closed(None, grant, notified));
         self.closing.notify_waiters();
-        self.detached(&checkout.conn);
+        report!(debug, self, age = ?checkout.conn.age(), "connection detached");
         checkout.conn.into_inner()
     }
 
-    /// Goes on after a step at this moment: releases the lock, drops the closed connection, starts
-    /// the granted connection attempts, and wakes the notified get or hands it a connection.
+    /// Does the work after a step at this moment: releases the lock, drops the closed connection,
+    /// starts the granted connection attempts, and wakes the notified get or hands it a connection.
     #[inline(always)]
     pub(crate) fn settle(
         self: &Arc<Self>,
@@ -178,39 +235,45 @@ impl<M: ManageConnection> Shared<M> {
         at: u64,
         after: Option<After<M::Connection>>,
     ) {
-        let (mut due, mut waker, mut closed) = (locked.unopened, None, None);
-        if let Some(after) = after {
-            due |= after.grants;
-            closed = after.closed;
-            locked.dropping += u32::from(closed.is_some());
-            if let Some(get) = after.notified {
-                let (woken, more) = self.notify(&mut locked, at, get);
-                waker = woken;
-                due |= more;
-            }
-        }
+        let Some(after) = after else {
+            drop(locked);
+            return self.open();
+        };
+        let (waker, more) = match after.notified {
+            Some(get) => self.notify(&mut locked, at, get),
+            None => (None, false),
+        };
+        let due = locked.unopened | after.grants | more;
+        locked.dropping += u32::from(after.closed.is_some());
         drop(locked);
-        let go_on = |due| {
-            if due {
-                self.open();
-            }
-            if let Some(waker) = waker {
-                waker.wake();
-            }
-        };
-        let Some(conn) = closed else {
-            return go_on(due);
-        };
-        self.ended(&conn);
-        let dropped = catch_unwind(AssertUnwindSafe(|| drop(conn)));
-        go_on(self.is_dropped() || due);
+        match after.closed {
+            None => self.go_on(due, waker),
+            Some(conn) => self.drop_late(conn, due, waker),
+        }
+    }
+
+    #[inline(always)]
+    fn go_on(self: &Arc<Self>, due: bool, waker: Option<Waker>) {
+        if due {
+            self.open();
+        }
+        if let Some(waker) = waker {
+            waker.wake();
+        }
+    }
+
+    #[cold]
+    fn drop_late(self: &Arc<Self>, conn: Boxed<M::Connection>, due: bool, waker: Option<Waker>) {
+        let reason = if self.is_closed() { CLOSED } else { RETIRED };
+        let dropped = self.drop_one(conn, reason);
+        self.go_on(self.lock().unopened || due, waker);
         resume(dropped);
     }
 
     /// Returns the waker of a notified get, and whether connections are to be opened. In a fair
     /// pool the get is handed an idle connection. If none is idle it tries by itself, so that the
-    /// connection that it requests is opened in the runtime of its task. A get that is not here had
-    /// no memory to wait: it gives up, which passes its notification on.
+    /// connection that it requests is opened in the runtime of its task. A get without an entry was
+    /// refused memory to wait: it gives up, which passes its notification to the next one.
     #[inline]
     fn notify(
         &self,
@@ -231,26 +294,33 @@ impl<M: ManageConnection> Shared<M> {
 
     /// Drops the connections that a step closed all at once, one by one. If some of the destructors
     /// panic, the others run all the same, and the first panic is returned.
-    pub(crate) fn drop_closed(&self, reason: &str) -> Result<(), Box<dyn Any + Send>> {
-        let next = || self.lock().take_closed();
+    pub(crate) fn drop_closed(&self, reason: &str) -> thread::Result<()> {
         let mut result = Ok(());
-        while let Some(conn) = next() {
-            self.closed(&conn, reason);
-            let dropped = catch_unwind(AssertUnwindSafe(|| drop(conn)));
-            self.is_dropped();
-            result = result.and(dropped);
+        loop {
+            let Some(conn) = self.lock().take_closed() else {
+                return result;
+            };
+            result = result.and(self.drop_one(conn, reason));
         }
-        result
     }
 
-    /// Notes that a closed connection was dropped. Returns whether connections are left to be
-    /// opened.
-    fn is_dropped(&self) -> bool {
-        let mut locked = self.lock();
-        locked.dropping -= 1;
-        let due = locked.unopened;
-        drop(locked);
+    /// Drops a connection that a step closed. Returns the panic of its destructor.
+    #[cold]
+    #[inline(never)]
+    fn drop_one(&self, conn: Boxed<M::Connection>, reason: &str) -> thread::Result<()> {
+        self.closed(&conn, reason);
+        let dropped = catch_unwind(AssertUnwindSafe(|| drop(conn)));
+        self.lock().dropping -= 1;
         self.closing.notify_waiters();
-        due
+        dropped
+    }
+}
+
+/// Resumes the panic of a connection's destructor. Exception: if this thread is panicking already,
+/// a second panic would abort the process.
+pub(crate) fn resume(dropped: thread::Result<()>) {
+    match dropped {
+        Err(panicked) if !thread::panicking() => resume_unwind(panicked),
+        _ => {}
     }
 }

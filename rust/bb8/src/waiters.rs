@@ -24,7 +24,7 @@ pub(crate) struct Waiters<C> {
     /// By their index in the core's table of gets.
     waiting: Vec<Option<Waiting>>,
     count: usize,
-    /// By their number, as the core may give their index away.
+    /// By their number, as the core may reuse their index.
     handed: HashMap<u64, Handed<C>>,
     hands_off: bool,
     /// Whether gets may still wait.
@@ -32,7 +32,7 @@ pub(crate) struct Waiters<C> {
 }
 
 impl<C> Waiters<C> {
-    /// For so many gets memory is kept when none waits.
+    /// The number of gets for which memory is kept when none waits.
     const KEPT: usize = 64;
 
     /// Memory for hand-offs is reserved only if the pool makes any.
@@ -50,7 +50,7 @@ impl<C> Waiters<C> {
     /// wait any more.
     #[inline]
     pub(crate) fn wait(&mut self, get: GetKey, since: u64, waker: &mut Option<Waker>) -> bool {
-        if (self.hands_off || get.place >= self.waiting.len()) && !self.make_room(get.place) {
+        if (self.hands_off || get.place >= self.waiting.len()) && !self.reserve_for(get.place) {
             return false;
         }
         debug_assert!(self.waiting[get.place].is_none());
@@ -65,15 +65,15 @@ impl<C> Waiters<C> {
 
     /// Reserves memory for a get at this index, and for the hand-off to it.
     #[cold]
-    fn make_room(&mut self, index: usize) -> bool {
+    fn reserve_for(&mut self, index: usize) -> bool {
         let missing = (index + 1).saturating_sub(self.waiting.len());
-        let has_room = self.is_open
+        let has_capacity = self.is_open
             && (!self.hands_off || self.handed.try_reserve(self.count + 1).is_ok())
             && self.waiting.try_reserve(missing).is_ok();
-        if has_room {
+        if has_capacity {
             self.waiting.extend((0..missing).map(|_| None));
         }
-        has_room
+        has_capacity
     }
 
     /// The entry of a get, if it waits.
@@ -104,7 +104,7 @@ impl<C> Waiters<C> {
         self.handed.remove(&get.number)
     }
 
-    /// Takes the waker of a notified get, which is to try again.
+    /// Takes the waker of a notified get, which has to try again.
     pub(crate) fn notify(&mut self, get: GetKey) -> Option<Waker> {
         self.entry(get)?.as_mut()?.waker.take()
     }

@@ -143,7 +143,7 @@ async fn a_server_that_is_down_is_not_hammered() {
 }
 
 #[tokio::test(start_paused = true)]
-async fn without_a_get_that_waits_nothing_is_asked_for() {
+async fn without_a_waiting_get_no_further_attempt_is_made() {
     let server = Server::down_for(millis(1_000_000), Fault::Refuses);
     let builder = builder(2, Fault::Refuses).min_idle(2);
     let pool = builder.build_unchecked(Manager(server.clone()));
@@ -157,7 +157,7 @@ async fn without_a_get_that_waits_nothing_is_asked_for() {
 }
 
 #[tokio::test(start_paused = true)]
-async fn the_shortest_timeout_leaves_other_tasks_their_turns() {
+async fn the_shortest_timeout_lets_other_tasks_run() {
     for retries in [true, false] {
         let server = Server::down_for(millis(1_000_000), Fault::Refuses);
         let builder = builder(1, Fault::Refuses).connection_timeout(Duration::from_nanos(1));

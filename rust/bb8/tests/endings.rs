@@ -25,7 +25,7 @@ const KINDS: [(bool, Option<Duration>); 4] = [
     (true, Some(Duration::ZERO)),
 ];
 
-/// What happens to connections, whose numbers are from 0 on.
+/// The connections of a test, numbered from 0 on.
 #[derive(Debug, Default)]
 struct World {
     begun: AtomicU32,
@@ -118,7 +118,7 @@ fn builder((check, fair_after): (bool, Option<Duration>), size: u32) -> Builder<
         .connection_timeout(60 * SECOND)
 }
 
-/// A pool of so many connections, all idle.
+/// A pool of this many connections, all idle.
 async fn full(kind: (bool, Option<Duration>), size: u32) -> (Pool<Manager>, Arc<World>) {
     let world: Arc<World> = Arc::default();
     let pool = builder(kind, size).build(Manager(world.clone()));
@@ -163,7 +163,7 @@ fn panics(calls: impl FnOnce()) -> bool {
 }
 
 #[tokio::test(start_paused = true)]
-async fn a_detached_connection_is_the_caller_s_and_its_slot_is_free() {
+async fn detach_returns_the_connection_and_frees_its_slot() {
     for kind in KINDS {
         let (pool, world) = full(kind, 1).await;
         let conn = PooledConnection::detach(pool.get().await.unwrap());
@@ -181,7 +181,7 @@ async fn a_detached_connection_is_the_caller_s_and_its_slot_is_free() {
 }
 
 #[tokio::test(start_paused = true)]
-async fn a_detaching_wakes_a_get_that_waits() {
+async fn detach_wakes_a_waiting_get() {
     for kind in KINDS {
         let (pool, _) = full(kind, 1).await;
         let conn = pool.get_owned().await.unwrap();
@@ -196,7 +196,7 @@ async fn a_detaching_wakes_a_get_that_waits() {
 }
 
 #[tokio::test(start_paused = true)]
-async fn a_detaching_is_no_release_and_min_idle_is_made_up_for() {
+async fn detach_skips_on_release_and_refills_min_idle() {
     let world: Arc<World> = Arc::default();
     let builder = builder(KINDS[0], 2).min_idle(2);
     let builder = builder.connection_customizer(Box::new(Releases(world.clone())));
@@ -218,7 +218,7 @@ async fn a_detached_guard_that_is_the_last_handle_closes_the_pool() {
 }
 
 #[tokio::test(start_paused = true)]
-async fn retired_connections_are_served_no_more() {
+async fn retired_connections_are_not_checked_out_again() {
     for kind in KINDS {
         let (pool, world) = full(kind, 3).await;
         let conn = pool.get_owned().await.unwrap();
@@ -243,8 +243,8 @@ async fn retired_connections_are_served_no_more() {
     }
 }
 
-/// A pool whose connection attempts, so many, are held back, and its retiring in the middle. Those
-/// that begin later are not held back.
+/// Retires the pool while this many connection attempts are held back, and then releases them.
+/// Attempts that begin later are not held back.
 async fn retired_while_connecting(pool: &Pool<Manager>, world: &World, attempts: u32) {
     yield_now().await;
     assert_eq!(world.begun.load(SeqCst), attempts);
@@ -255,7 +255,7 @@ async fn retired_while_connecting(pool: &Pool<Manager>, world: &World, attempts:
 }
 
 #[tokio::test(start_paused = true)]
-async fn an_attempt_in_progress_at_a_retiring_serves_nobody_and_another_one_begins_at_once() {
+async fn an_attempt_in_progress_at_a_retire_is_replaced_at_once() {
     for kind in KINDS {
         let (pool, world) = full(kind, 1).await;
         drop(PooledConnection::detach(pool.get().await.unwrap()));
@@ -281,7 +281,7 @@ async fn an_attempt_in_progress_at_a_retiring_serves_nobody_and_another_one_begi
 }
 
 #[tokio::test(start_paused = true)]
-async fn each_get_that_waits_at_a_retiring_is_served_with_a_new_connection() {
+async fn gets_waiting_at_a_retire_are_served_with_new_connections() {
     for kind in KINDS {
         let world: Arc<World> = Arc::default();
         let pool = builder(kind, 3).build(Manager(world.clone()));
@@ -306,7 +306,7 @@ async fn each_get_that_waits_at_a_retiring_is_served_with_a_new_connection() {
 }
 
 #[tokio::test(start_paused = true)]
-async fn attempts_in_progress_at_a_retiring_begin_anew_for_min_idle() {
+async fn attempts_in_progress_at_a_retire_begin_anew_for_min_idle() {
     let world: Arc<World> = Arc::default();
     world.connects_wait.store(true, SeqCst);
     let pool = builder(KINDS[0], 3).min_idle(2);
@@ -323,7 +323,7 @@ async fn attempts_in_progress_at_a_retiring_begin_anew_for_min_idle() {
 }
 
 #[tokio::test(start_paused = true)]
-async fn a_drop_that_panics_after_a_retiring_costs_a_waiting_get_nothing() {
+async fn a_panicking_destructor_after_a_retire_does_not_delay_waiting_gets() {
     let world: Arc<World> = Arc::default();
     let pool = builder(KINDS[0], 1).build(Manager(world.clone()));
     let pool = pool.await.unwrap();
@@ -339,7 +339,7 @@ async fn a_drop_that_panics_after_a_retiring_costs_a_waiting_get_nothing() {
 }
 
 #[tokio::test(start_paused = true)]
-async fn a_retiring_opens_what_min_idle_lacks() {
+async fn retire_refills_min_idle() {
     let world: Arc<World> = Arc::default();
     let builder = builder(KINDS[0], 3).min_idle(2);
     let pool = builder.build(Manager(world.clone())).await.unwrap();
@@ -353,7 +353,7 @@ async fn a_retiring_opens_what_min_idle_lacks() {
 }
 
 #[tokio::test(start_paused = true)]
-async fn drops_that_panic_lose_nothing_at_a_retiring() {
+async fn retire_closes_all_despite_panicking_destructors() {
     let (pool, world) = full(KINDS[0], 4).await;
     world.drops_panic.store(true, SeqCst);
     assert!(panics(|| pool.retire()));
@@ -370,7 +370,7 @@ async fn drops_that_panic_lose_nothing_at_a_retiring() {
 }
 
 #[tokio::test(start_paused = true)]
-async fn a_close_ends_gets_that_wait_and_those_that_begin_later() {
+async fn close_ends_waiting_and_later_gets() {
     for kind in KINDS {
         let (pool, world) = full(kind, 1).await;
         let conn = pool.get_owned().await.unwrap();
@@ -403,7 +403,7 @@ async fn a_close_ends_gets_that_wait_and_those_that_begin_later() {
 }
 
 #[tokio::test(start_paused = true)]
-async fn a_close_drops_idle_connections_and_waits_for_nothing_else() {
+async fn close_drops_idle_connections_and_waits_for_nothing_else() {
     for kind in KINDS {
         let (pool, world) = full(kind, 3).await;
         let began = Instant::now();
@@ -419,7 +419,7 @@ async fn a_close_drops_idle_connections_and_waits_for_nothing_else() {
 }
 
 #[tokio::test(start_paused = true)]
-async fn a_close_ends_attempts_and_what_would_open_more() {
+async fn close_ends_connection_attempts() {
     let world: Arc<World> = Arc::default();
     let builder = builder(KINDS[0], 3).min_idle(3).max_lifetime(SECOND);
     let builder = builder.reaper_rate(SECOND / 2);
@@ -441,7 +441,7 @@ async fn a_close_ends_attempts_and_what_would_open_more() {
 }
 
 #[tokio::test(start_paused = true)]
-async fn several_wait_for_one_close() {
+async fn several_tasks_may_wait_for_one_close() {
     let (pool, world) = full(KINDS[0], 2).await;
     let conns = (pool.get_owned().await, pool.get_owned().await);
     let close = || {
@@ -463,7 +463,7 @@ async fn several_wait_for_one_close() {
 }
 
 #[tokio::test(start_paused = true)]
-async fn a_close_resolves_when_a_broken_connection_is_returned() {
+async fn close_resolves_when_a_broken_connection_is_returned() {
     let (pool, world) = full(KINDS[0], 1).await;
     let conn = pool.get_owned().await.unwrap();
     let closing = tokio::spawn({
@@ -478,7 +478,7 @@ async fn a_close_resolves_when_a_broken_connection_is_returned() {
 }
 
 #[tokio::test]
-async fn a_close_waits_for_what_another_one_drops() {
+async fn close_waits_for_connections_that_another_close_drops() {
     let (pool, world) = full(KINDS[0], 1).await;
     world.drops_block.store(true, SeqCst);
     let other = thread::spawn({
@@ -512,7 +512,7 @@ async fn a_closed_pool_refuses_connections() {
 }
 
 #[tokio::test(start_paused = true)]
-async fn a_get_in_mid_check_keeps_its_connection_or_ends() {
+async fn a_get_that_checks_at_a_close_is_served_or_ends() {
     for fails in [false, true] {
         let (pool, world) = full(KINDS[1], 1).await;
         world.checks_fail.store(fails, SeqCst);
@@ -529,7 +529,7 @@ async fn a_get_in_mid_check_keeps_its_connection_or_ends() {
 }
 
 #[tokio::test(start_paused = true)]
-async fn a_get_that_was_handed_its_connection_before_the_close_has_it() {
+async fn a_get_handed_a_connection_before_the_close_is_served() {
     for kind in [KINDS[2], KINDS[3]] {
         for is_polled in [true, false] {
             let (pool, world) = full(kind, 1).await;
@@ -550,7 +550,7 @@ async fn a_get_that_was_handed_its_connection_before_the_close_has_it() {
 }
 
 #[tokio::test(start_paused = true)]
-async fn drops_that_panic_lose_nothing_at_a_close() {
+async fn close_drops_all_despite_panicking_destructors() {
     let (pool, world) = full(KINDS[0], 4).await;
     let conn = pool.get_owned().await.unwrap();
     let others: [Guard; 3] = [(); 3].map(|()| {
@@ -626,7 +626,7 @@ fn a_pool_may_be_closed_outside_of_a_runtime_and_in_one_that_ends() {
 }
 
 #[test]
-fn a_runtime_that_ends_drops_a_close_that_waits() {
+fn a_runtime_that_shuts_down_cancels_a_waiting_close() {
     let world: Arc<World> = Arc::default();
     let runtime = runtime();
     let (pool, conn) = runtime.block_on(async {

@@ -1,4 +1,4 @@
-//! What a pool reports by `tracing`.
+//! The events that a pool reports by `tracing`.
 
 use bb8::{CustomizeConnection, ManageConnection, Pool, PooledConnection};
 use std::fmt::{Debug, Write};

@@ -1,4 +1,5 @@
-//! Who is served where gets wait, by `fair_after`: clocks are paused, so each run is the same.
+//! The order in which waiting gets are served with `fair_after`. Clocks are paused, so each run is
+//! the same.
 
 use bb8::{ManageConnection, Pool, PooledConnection, RunError};
 use futures_util::task::noop_waker;
@@ -67,7 +68,7 @@ async fn rounds(check: bool, fair_after: Option<Duration>) -> (Vec<u32>, u64) {
 }
 
 #[tokio::test(start_paused = true)]
-async fn a_fair_pool_lets_nobody_starve() {
+async fn fair_after_prevents_starvation() {
     for check in [false, true] {
         for wait in [Duration::ZERO, MILLISECOND] {
             let (rounds, timed_out) = rounds(check, Some(wait)).await;
@@ -79,7 +80,7 @@ async fn a_fair_pool_lets_nobody_starve() {
 }
 
 #[tokio::test(start_paused = true)]
-async fn a_pool_that_is_not_fair_may_let_them_starve() {
+async fn without_fair_after_tasks_may_starve() {
     let (rounds, timed_out) = rounds(false, None).await;
     assert!(rounds[0] == 0 && rounds[31] > 1000, "{rounds:?}");
     assert!(timed_out > 50, "{timed_out}");
@@ -114,7 +115,7 @@ impl Hand {
 }
 
 #[tokio::test(start_paused = true)]
-async fn what_was_handed_to_a_get_stays_with_it() {
+async fn a_handed_off_connection_stays_with_its_get() {
     for fair_after in [None, Some(Duration::ZERO)] {
         let pool = pool(1, false, fair_after).await;
         let conn = pool.get().await.unwrap();

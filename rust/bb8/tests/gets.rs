@@ -13,8 +13,8 @@ use tokio::time::{sleep, timeout, Instant};
 const SECOND: Duration = Duration::from_secs(1);
 const CHECKS: [bool; 2] = [false, true];
 
-/// What happened to the connections, whose numbers are from 0 on. Checks fail below a number, and
-/// hang below another.
+/// The connections of a test, numbered from 0 on. Checks fail below a number, and hang below
+/// another.
 #[derive(Debug, Default)]
 struct World {
     opened: AtomicU32,
@@ -57,7 +57,7 @@ impl ManageConnection for Manager {
     }
 }
 
-/// A pool with so many idle connections.
+/// A pool with this many idle connections.
 async fn pool(idle: u32, check: bool) -> (Pool<Manager>, Arc<World>) {
     let world: Arc<World> = Arc::default();
     let builder = Pool::builder().max_size(3).test_on_check_out(check);
@@ -91,7 +91,7 @@ fn begins<T>(future: Pin<&mut impl Future<Output = T>>) {
 }
 
 #[tokio::test(start_paused = true)]
-async fn a_try_of_an_empty_pool_counts_nowhere_and_opens_nothing() {
+async fn try_get_of_an_empty_pool_counts_nowhere_and_opens_nothing() {
     for check in CHECKS {
         let (pool, world) = pool(0, check).await;
         assert!(pool.try_get().await.unwrap().is_none());
@@ -103,7 +103,7 @@ async fn a_try_of_an_empty_pool_counts_nowhere_and_opens_nothing() {
 }
 
 #[tokio::test(start_paused = true)]
-async fn a_try_takes_what_is_idle_and_no_more() {
+async fn try_get_takes_idle_connections_alone() {
     for check in CHECKS {
         let (pool, world) = pool(1, check).await;
         let conn = pool.try_get().await.unwrap();
@@ -121,7 +121,7 @@ async fn a_try_takes_what_is_idle_and_no_more() {
 }
 
 #[tokio::test(start_paused = true)]
-async fn a_try_is_not_among_the_waiting_gets() {
+async fn try_get_does_not_wait() {
     for check in CHECKS {
         let (pool, _) = pool(3, check).await;
         let mut held = Vec::new();
@@ -141,7 +141,7 @@ async fn a_try_is_not_among_the_waiting_gets() {
 }
 
 #[tokio::test(start_paused = true)]
-async fn a_try_goes_on_after_a_failed_check() {
+async fn try_get_goes_on_after_a_failed_check() {
     let (pool, world) = pool(3, true).await;
     world.invalid.store(2, SeqCst);
     let conn = pool.try_get().await.unwrap();
@@ -152,7 +152,7 @@ async fn a_try_goes_on_after_a_failed_check() {
 }
 
 #[tokio::test(start_paused = true)]
-async fn a_try_whose_checks_all_fail_counts_as_cancelled() {
+async fn try_get_counts_as_cancelled_if_all_checks_fail() {
     let (pool, world) = pool(3, true).await;
     world.invalid.store(3, SeqCst);
     assert!(pool.try_get().await.unwrap().is_none());
@@ -168,7 +168,7 @@ async fn a_try_whose_checks_all_fail_counts_as_cancelled() {
 }
 
 #[tokio::test(start_paused = true)]
-async fn a_check_of_a_try_has_the_time_of_a_get() {
+async fn a_check_of_try_get_is_limited_by_connection_timeout() {
     let (pool, world) = pool(1, true).await;
     world.hanging.store(1, SeqCst);
     let began = Instant::now();
@@ -178,7 +178,7 @@ async fn a_check_of_a_try_has_the_time_of_a_get() {
 }
 
 #[tokio::test(start_paused = true)]
-async fn a_try_that_is_dropped_in_its_check_frees_the_slot() {
+async fn try_get_dropped_in_its_check_frees_the_slot() {
     let (pool, world) = pool(3, true).await;
     world.hanging.store(3, SeqCst);
     {
@@ -195,7 +195,7 @@ async fn a_try_that_is_dropped_in_its_check_frees_the_slot() {
 fn is_sent<T: Send + Sync>(_: T) {}
 
 #[tokio::test]
-async fn the_futures_are_sent() {
+async fn futures_are_send() {
     let (pool, _) = pool(0, true).await;
     is_sent(pool.try_get());
     is_sent(pool.try_get_owned());
@@ -211,7 +211,7 @@ async fn late(pool: &Pool<Manager>, time: Duration) -> (Duration, Option<RunErro
 }
 
 #[tokio::test(start_paused = true)]
-async fn a_get_has_its_own_time() {
+async fn get_timeout_ends_at_its_own_time() {
     for check in CHECKS {
         let (pool, _) = pool(3, check).await;
         let mut held = Vec::new();
@@ -231,7 +231,7 @@ async fn a_get_has_its_own_time() {
 }
 
 #[tokio::test(start_paused = true)]
-async fn a_get_with_a_time_of_its_own_is_served_in_it() {
+async fn get_timeout_is_served_within_its_own_time() {
     for time in [3 * SECOND, Duration::MAX] {
         let (pool, _) = pool(3, true).await;
         let mut held = Vec::new();
@@ -250,7 +250,7 @@ async fn a_get_with_a_time_of_its_own_is_served_in_it() {
 }
 
 #[tokio::test(start_paused = true)]
-async fn a_check_is_cut_off_at_the_end_of_the_get_s_own_time() {
+async fn get_timeout_cuts_off_a_check() {
     let (pool, world) = pool(1, true).await;
     world.hanging.store(1, SeqCst);
     let (took, error) = late(&pool, SECOND / 4).await;
@@ -265,7 +265,7 @@ async fn a_check_is_cut_off_at_the_end_of_the_get_s_own_time() {
 }
 
 #[tokio::test(start_paused = true)]
-async fn a_timeout_from_outside_counts_as_cancelled() {
+async fn a_timeout_around_get_counts_as_cancelled() {
     let (pool, _) = pool(3, false).await;
     let _held = [
         pool.get().await.unwrap(),

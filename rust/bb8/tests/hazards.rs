@@ -1,6 +1,6 @@
-//! What may go wrong round a pool: panics of the manager, of the error sink and of a connection's
-//! drop, wakers that own what they wake, runtimes that end, futures and guards that are forgotten.
-//! No room is lost but with what is forgotten, and no get that waits is.
+//! Faults around a pool: panics of the manager, of the error sink and of a connection's drop,
+//! wakers that own what they wake, runtimes that end, futures and guards that are forgotten.
+//! No slot leaks except with a forgotten guard or future, and no waiting get is lost.
 
 use bb8::{CustomizeConnection, ErrorSink, ManageConnection, Pool, PooledConnection, RunError};
 use futures_util::future::join_all;
@@ -18,7 +18,7 @@ use tokio::sync::Semaphore;
 use tokio::task::{block_in_place, spawn_local, yield_now, LocalSet};
 use tokio::time::{sleep, timeout};
 
-/// What goes wrong, until it is mended.
+/// A fault of the server or of the user's code, until it is mended.
 #[derive(Clone, Copy, Debug)]
 enum Fault {
     ConnectHangs,
@@ -279,7 +279,7 @@ async fn no_waker_of_a_get_that_ended_is_kept() {
 }
 
 #[tokio::test(start_paused = true)]
-async fn a_drop_that_panics_keeps_no_room() {
+async fn a_panicking_destructor_frees_its_slot() {
     for fault in [Fault::IsBroken, Fault::AskingPanics] {
         let world = Arc::default();
         let pool = pool(&world, 1).await;
@@ -293,7 +293,7 @@ async fn a_drop_that_panics_keeps_no_room() {
 }
 
 #[tokio::test(start_paused = true)]
-async fn a_drop_that_panics_after_a_failed_check_keeps_no_room() {
+async fn a_panicking_destructor_after_a_failed_check_frees_its_slot() {
     let world = Arc::default();
     let pool = checking(&world).await;
     world.set(&[Fault::CheckFails, Fault::DropPanics]);
@@ -305,7 +305,7 @@ async fn a_drop_that_panics_after_a_failed_check_keeps_no_room() {
 }
 
 #[tokio::test(start_paused = true)]
-async fn a_drop_that_panics_holds_up_no_get_that_waits() {
+async fn a_panicking_destructor_does_not_delay_waiting_gets() {
     let world = Arc::default();
     let builder = builder(&world, 1).max_lifetime(Duration::from_millis(20));
     let pool = builder.build(Manager(world.clone())).await.unwrap();
@@ -323,7 +323,7 @@ async fn a_drop_that_panics_holds_up_no_get_that_waits() {
 }
 
 #[tokio::test(start_paused = true)]
-async fn drops_that_panic_do_not_end_the_reaper() {
+async fn panicking_destructors_do_not_end_the_reaper() {
     let world = Arc::default();
     let builder = builder(&world, 4).idle_timeout(Duration::from_millis(30));
     let builder = builder.reaper_rate(Duration::from_millis(40));
@@ -341,7 +341,7 @@ async fn drops_that_panic_do_not_end_the_reaper() {
 }
 
 #[tokio::test]
-async fn a_drop_that_panics_keeps_no_other_connection_at_the_end() {
+async fn the_last_handle_closes_all_despite_a_panicking_destructor() {
     let world = Arc::default();
     let pool = pool(&world, 4).await;
     for _ in 0..4 {
@@ -353,10 +353,10 @@ async fn a_drop_that_panics_keeps_no_other_connection_at_the_end() {
 }
 
 #[tokio::test(start_paused = true)]
-async fn a_manager_that_panics_keeps_no_room() {
-    let opening = [Fault::ConnectPanics];
+async fn a_panicking_manager_frees_its_slot() {
+    let attempt = [Fault::ConnectPanics];
     let sinking = [Fault::ConnectFails, Fault::SinkPanics];
-    for faults in [&opening[..], &sinking[..]] {
+    for faults in [&attempt[..], &sinking[..]] {
         let world = Arc::default();
         let pool = pool(&world, 1).await;
         world.set(faults);
@@ -371,7 +371,7 @@ async fn a_manager_that_panics_keeps_no_room() {
 }
 
 #[tokio::test(start_paused = true)]
-async fn a_check_that_panics_keeps_no_room() {
+async fn a_panicking_check_frees_its_slot() {
     let checking_it = [Fault::CheckPanics];
     let sinking = [Fault::CheckFails, Fault::SinkPanics];
     for faults in [&checking_it[..], &sinking[..]] {
@@ -425,7 +425,7 @@ async fn a_connection_that_the_customizer_does_not_keep_is_closed() {
 }
 
 #[tokio::test(start_paused = true)]
-async fn the_customizer_looks_at_no_connection_that_is_broken_or_had_no_guard() {
+async fn on_release_skips_connections_that_are_broken_or_had_no_guard() {
     let world = Arc::default();
     let pool = customized(&world, Some(Duration::ZERO)).await;
     let conn = pool.get().await.unwrap();
@@ -476,7 +476,7 @@ async fn a_check_that_hangs_is_cut_off_and_its_connection_closed() {
 }
 
 #[tokio::test]
-async fn a_check_that_uses_up_its_tasks_turns_is_cut_off() {
+async fn a_check_that_uses_up_the_budget_of_its_task_is_cut_off() {
     let world = Arc::default();
     let builder = builder(&world, 1).min_idle(1).test_on_check_out(true);
     let limited = builder.connection_timeout(Duration::from_millis(20));
@@ -487,7 +487,7 @@ async fn a_check_that_uses_up_its_tasks_turns_is_cut_off() {
 }
 
 #[tokio::test(start_paused = true)]
-async fn nothing_is_opened_again_for_a_pool_that_is_gone() {
+async fn a_dropped_pool_opens_nothing() {
     let world: Arc<World> = Arc::default();
     world.set(&[Fault::ConnectFails]);
     let pool = builder(&world, 1).min_idle(1);
@@ -511,7 +511,7 @@ async fn a_get_whose_checks_fail_ends_in_time() {
     assert!(world.dropped.load(SeqCst) < 5);
 }
 
-/// Gets of a runtime ask for openings, which hang, and end with it.
+/// Gets of a runtime request connection attempts, which hang, and end with it.
 fn openings_that_end(pool: &Pool<Manager>, world: &World, count: usize) -> Runtime {
     world.set(&[Fault::ConnectHangs]);
     let ends = runtime();
@@ -529,7 +529,7 @@ fn openings_that_end(pool: &Pool<Manager>, world: &World, count: usize) -> Runti
 }
 
 #[test]
-fn another_runtime_opens_what_one_that_ended_left() {
+fn another_runtime_takes_over_attempts_of_one_that_shut_down() {
     for count in [1, 3] {
         let world: Arc<World> = Arc::default();
         let lives = runtime();
@@ -561,7 +561,7 @@ fn another_runtime_opens_what_one_that_ended_left() {
 }
 
 #[test]
-fn what_a_runtime_left_is_opened_once_somebody_asks() {
+fn the_next_get_takes_over_attempts_of_a_runtime_that_shut_down() {
     let world: Arc<World> = Arc::default();
     let lives = runtime();
     let pool = lives.block_on(pool(&world, 1));
@@ -656,7 +656,7 @@ fn each_kind_of_runtime_serves() {
 }
 
 #[tokio::test(start_paused = true)]
-async fn what_is_forgotten_costs_no_more_than_itself() {
+async fn a_forgotten_guard_or_future_leaks_only_itself() {
     let world = Arc::default();
     let pool: &Pool<Manager> = Box::leak(Box::new(pool(&world, 2).await));
     std::mem::forget(pool.get().await.unwrap());
@@ -668,7 +668,7 @@ async fn what_is_forgotten_costs_no_more_than_itself() {
         forgotten.as_mut(),
     );
     std::mem::forget(forgotten);
-    // It is told of the connection, and never comes for it.
+    // The forgotten get is notified, and never takes the connection.
     drop(conn);
     assert!(serves(pool).await);
     assert_eq!(counts(pool, &world), (2, 2));

@@ -104,7 +104,7 @@ mod signatures {
 }
 
 #[tokio::test]
-async fn settings_are_the_originals() {
+async fn default_settings_are_those_of_bb8() {
     let pool = Builder::new().build_unchecked(Numbers);
     let printed = "Config { max_size: 10, min_idle: None, test_on_check_out: true, \
                    max_lifetime: Some(1800s), idle_timeout: Some(600s), connection_timeout: 30s, \
@@ -114,7 +114,7 @@ async fn settings_are_the_originals() {
 }
 
 #[test]
-fn errors_print_as_the_originals() {
+fn errors_print_as_in_bb8() {
     let missing = io::Error::from_raw_os_error(2);
     for (error, text) in [
         (RunError::TimedOut, "Timed out in bb8"),
@@ -140,7 +140,7 @@ fn panics(with: fn()) -> Option<String> {
 }
 
 #[test]
-fn errors_of_this_crate_print() {
+fn own_errors_name_their_causes() {
     for (error, text) in [
         (RunError::Memory, "No memory in bb8"),
         (RunError::Exhausted, "Numbers used up in bb8"),
@@ -151,7 +151,7 @@ fn errors_of_this_crate_print() {
 }
 
 #[test]
-fn unlawful_settings_panic_as_the_originals() {
+fn invalid_settings_panic_as_in_bb8() {
     let cases: [(fn(), &str); 6] = [
         (
             || drop(Builder::<Numbers>::new().max_size(0)),
@@ -195,7 +195,7 @@ fn unlawful_settings_panic_as_the_originals() {
 }
 
 #[test]
-fn other_unlawful_settings_name_themselves() {
+fn panics_name_the_invalid_setting() {
     let jitter = "max_lifetime_jitter must be from 0 to 1!";
     let cases: [(fn(), &str); 6] = [
         (

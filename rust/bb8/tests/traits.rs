@@ -1,6 +1,5 @@
-//! Which traits the public types have: those of bb8 0.9.1, asserted by the compiler. What it has
-//! not and this crate has (figures that compare and copy, `AddError` that prints) is not asserted
-//! to lack.
+//! The traits of the public types: those of bb8 0.9.1, asserted by the compiler. That bb8 lacks the
+//! others (statistics that compare and copy, `AddError` that prints) is not asserted.
 
 use bb8::{
     AddError, Builder, CustomizeConnection, ErrorSink, ManageConnection, NopErrorSink, Pool,
@@ -104,7 +103,7 @@ fn is_sync<T: Sync>(_: T) {}
 
 /// The futures go to other threads, and to others' sight as the original's do.
 #[tokio::test]
-async fn the_futures_are_sent() {
+async fn futures_are_send() {
     let pool = Pool::builder().build_unchecked(Plain);
     is_send(pool.get());
     is_sync(pool.get());

@@ -4,7 +4,7 @@ ghost use Rattle.std.specs.Prelude.{◌≡◌};
 use crate::pool::{Cancel, PooledConnection};
 use bb8_core::api::RunError;
 use bb8_gets::GetState;
-use bb8_lock::{Given, OpensScope, Part, Parts, Shared};
+use bb8_lock::{OpensScope, Permit, Permits, PoolTypes, Shared};
 use futures::Future;
 use futures::task::{Context, Poll};
 use std::marker::PhantomData;
@@ -17,12 +17,12 @@ use std::sync::Wait;
 /// to be polled again at once. If it is dropped before it resolves, the get is cancelled; if it was
 /// never polled, or has resolved, the drop reads no clock and acquires no lock. bb8's get is an
 /// async function.
-pub struct GetFuture<'a, G: Given, L: Parts> {
+pub struct GetFuture<'a, G: PoolTypes, L: Permits> {
     pub(crate) shared: &'a Shared<G, L>,
-    pub(crate) get: GetState<G::Connection, G::Checking, Part<L>>,
+    pub(crate) get: GetState<G::Connection, G::Checking, Permit<L>>,
 }
 
-impl<G: Given<Runtime: Wait>, L: Parts> Cancel for GetFuture<'_, G, L> {
+impl<G: PoolTypes<Runtime: Wait>, L: Permits> Cancel for GetFuture<'_, G, L> {
     ghost use Rattle.bb8.specs.Gets.{CancelsGet};
 
     fn cancel(self)
@@ -32,7 +32,7 @@ impl<G: Given<Runtime: Wait>, L: Parts> Cancel for GetFuture<'_, G, L> {
     }
 }
 
-impl<G: Given, L: Parts> Drop for GetFuture<'_, G, L> {
+impl<G: PoolTypes, L: Permits> Drop for GetFuture<'_, G, L> {
     ghost use Rattle.bb8.specs.Gets.{CancelsGet};
 
     fn drop(self)
@@ -43,7 +43,7 @@ impl<G: Given, L: Parts> Drop for GetFuture<'_, G, L> {
     }
 }
 
-impl<'a, G: Given<Runtime: Wait>, L: Parts> Future for GetFuture<'a, G, L> {
+impl<'a, G: PoolTypes<Runtime: Wait>, L: Permits> Future for GetFuture<'a, G, L> {
     ghost use Rattle.std.specs.Prelude.{⊤};
     ghost use Rattle.futures.specs.Poll.{IfReady, OnPending};
     ghost use Rattle.futures.specs.Task.{Covers, Keeps};

@@ -2,28 +2,24 @@
 ghost use Rattle.std.specs.Prelude.{◌≡◌, ◌≤◌};
 ghost use Rattle.bb8_ledger.specs.Acts as acts;
 ghost use Rattle.bb8_ledger.specs.Answers as answers;
-ghost use Rattle.bb8_core.specs.Parts.{IsCounted};
-ghost use Rattle.bb8_core.specs.StateView.{Meets, Lends, Searches, IsWithinLimits};
+ghost use Rattle.bb8_core.specs.StepBounds.{IsBounded};
+ghost use Rattle.bb8_core.specs.StateView.{Steps};
 ghost use Rattle.bb8_core.specs.StepAnswers.{answer_of_claim};
 
 use super::decided::{due_asked, want};
 use super::{ClaimAnswer, Grant, PoolInternals};
-use bb8_tables::Lendings;
+use bb8_tables::AccessCounter;
 use bb8_types::api::Moment;
 
 impl<C: Drop, A> PoolInternals<C, A> {
     /// Grants what is wanted: `min_idle` minus idle connections and open approvals. The approvals
     /// are claimed at once if `claimed` is set.
     pub fn fill(&mut self, at: Moment, claimed: bool) -> Grant
-        ensures step { Meets self.old at.0 (acts.Fill claimed) (answers.Granted result) self.new }
-        ensures counts { IsCounted self.old 0 0 self.new }
-        ensures examined { Lends 4 self.old self.new }
-        ensures searched { Searches 0 self.new }
-        ensures limits { IsWithinLimits self.old }
+        ensures step { Steps self.old at.0 (acts.Fill claimed) (answers.Granted result) self.new }
+        ensures bounds { IsBounded 0 0 4 0 self.old self.new }
     {
-        self.limits();
         self.latest = self.latest.max(at.0);
-        self.lendings.end(Lendings::none());
+        self.accesses.end(AccessCounter::none());
         let wanted = want(&self.config, self.handles, &self.records);
         self.records.grant(wanted, claimed)
     }
@@ -32,15 +28,11 @@ impl<C: Drop, A> PoolInternals<C, A> {
     /// This is for waiters whose connection attempts were given up: none of them asks again by
     /// itself.
     pub fn ask(&mut self, at: Moment) -> Grant
-        ensures step { Meets self.old at.0 acts.Ask (answers.Granted result) self.new }
-        ensures counts { IsCounted self.old 0 0 self.new }
-        ensures examined { Lends 4 self.old self.new }
-        ensures searched { Searches 0 self.new }
-        ensures limits { IsWithinLimits self.old }
+        ensures step { Steps self.old at.0 acts.Ask (answers.Granted result) self.new }
+        ensures bounds { IsBounded 0 0 4 0 self.old self.new }
     {
-        self.limits();
         self.latest = self.latest.max(at.0);
-        self.lendings.end(Lendings::none());
+        self.accesses.end(AccessCounter::none());
         let waiting = self.gets.unnotified();
         let due = due_asked(&self.config, self.handles, &self.records, waiting);
         self.records.grant(due, false)
@@ -48,21 +40,17 @@ impl<C: Drop, A> PoolInternals<C, A> {
 
     /// Claims the unclaimed approval with the lowest number.
     pub fn claim(&mut self, at: Moment) -> ClaimAnswer
-        ensures step { Meets self.old at.0 acts.Claim (answer_of_claim result) self.new }
-        ensures counts { IsCounted self.old 0 0 self.new }
-        ensures examined { Lends 4 self.old self.new }
-        ensures searched { Searches 0 self.new }
-        ensures limits { IsWithinLimits self.old }
+        ensures step { Steps self.old at.0 acts.Claim (answer_of_claim result) self.new }
+        ensures bounds { IsBounded 0 0 4 0 self.old self.new }
     {
-        self.limits();
         self.latest = self.latest.max(at.0);
-        let mut lendings = Lendings::none();
+        let mut accesses = AccessCounter::none();
         if self.handles == 0 {
-            self.lendings.end(lendings);
+            self.accesses.end(accesses);
             return ClaimAnswer::Ended;
         }
-        let claimed = self.records.claim(&mut lendings);
-        self.lendings.end(lendings);
+        let claimed = self.records.claim(&mut accesses);
+        self.accesses.end(accesses);
         ClaimAnswer::Claimed(claimed)
     }
 }

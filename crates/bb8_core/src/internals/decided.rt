@@ -3,7 +3,7 @@ ghost use Rattle.std.specs.Prelude.{◌≡◌, ℕ, ◌+◌, ◌-◌, ◌<◌, �
 ghost use Rattle.std.specs.FinMap as map;
 ghost use Rattle.std.specs.Option.{ForSome, option_map};
 ghost use Rattle.std.specs.Duration.{as_nanos};
-ghost use Rattle.bb8_core.specs.Pool.{IsGreatestAge};
+ghost use Rattle.bb8_core.specs.Pool.{IsMaxAge};
 ghost use Rattle.bb8_types.specs.Bounds.{end_of_numbers, most_records};
 ghost use Rattle.bb8_types.specs.Grants as grants;
 ghost use Rattle.bb8_types.specs.Numbered as numbered;
@@ -12,11 +12,11 @@ ghost use Rattle.bb8_types.specs.Settings.{settings_of};
 ghost use Rattle.bb8_types.specs.declared.standing.Holder.TheVariants.{Guard, Get};
 ghost use Rattle.bb8_types.specs.declared.standing.Standing.{Standing};
 ghost use Rattle.bb8_tables.specs.Keys.{notified_of};
-ghost use Rattle.bb8_tables.specs.Lent.{AddsLent};
+ghost use Rattle.bb8_tables.specs.AccessCount.{AddsReads};
 ghost use Rattle.bb8_tables.specs.Machine as machine;
 ghost use Rattle.bb8_core.specs.Decided as decided;
 
-use bb8_tables::Lendings;
+use bb8_tables::AccessCounter;
 use bb8_tables::gets::Gets;
 use bb8_tables::keys::{GetKey, Key};
 use bb8_tables::records::{Records, one};
@@ -95,9 +95,9 @@ pub(super) fn due_asked<C: Drop>(
 }
 
 /// Returns the greatest age, in nanoseconds, that does not reach a limit.
-pub(super) fn greatest_age(limit: Option<Duration>) -> u64
+pub(super) fn max_age(limit: Option<Duration>) -> u64
     requires { ForSome limit (λ l. 0 < as_nanos l) }
-    ensures { IsGreatestAge (option_map as_nanos limit) result }
+    ensures { IsMaxAge (option_map as_nanos limit) result }
 {
     match limit {
         None => u64::MAX,
@@ -134,12 +134,16 @@ pub(super) fn is_expired(config: &Config, now: u64, birth: u64) -> bool
 
 /// Notifies the longest waiter that was not notified, if the test passes.
 #[inline]
-pub(super) fn notify_next_if(gets: &mut Gets, test: bool, lendings: &mut Lendings) -> Option<GetKey>
+pub(super) fn notify_next_if(
+    gets: &mut Gets,
+    test: bool,
+    accesses: &mut AccessCounter,
+) -> Option<GetKey>
     ensures value { notified_of result ≡ cond test (slice_get gets.old.waiting 0) None }
     ensures state { gets.new ≡ machine.after_notice (notified_of result) gets.old }
-    ensures examined { AddsLent 1 0 lendings.old lendings.new }
+    ensures examined { AddsReads 1 0 accesses.old accesses.new }
 {
-    if test { gets.notify(lendings) } else { None }
+    if test { gets.notify(accesses) } else { None }
 }
 
 /// Returns whether the first idle connection must be checked before a get is served with it. Reads
@@ -149,12 +153,12 @@ pub(super) fn checks_first<C: Drop>(
     config: &Config,
     records: &Records<C>,
     now: u64,
-    lendings: &mut Lendings,
+    accesses: &mut AccessCounter,
 ) -> bool
     ensures value { (k : ℕ) → places.first_of (settings_of config.now).queue_strategy
         records.now.idle ≡ Some k → result ≡ places.is_checked (settings_of config.now) now
         (places.entered_in (map.get records.now.places k)) }
-    ensures examined { AddsLent 1 0 lendings.old lendings.new }
+    ensures examined { AddsReads 1 0 accesses.old accesses.new }
 {
     if !config.test_on_check_out {
         return false;
@@ -162,7 +166,7 @@ pub(super) fn checks_first<C: Drop>(
     if config.test_after.is_zero() {
         return true;
     }
-    match records.first_entered(config.queue_strategy, lendings) {
+    match records.first_entered(config.queue_strategy, accesses) {
         // None is idle, so nothing goes out.
         None => true,
         Some(entered) => config.test_after.as_nanos() <= now.saturating_sub(entered) as u128,
@@ -196,7 +200,7 @@ pub(super) fn close_and_grant<C: Drop>(
     handles: u64,
     records: &mut Records<C>,
     k: Key,
-    lendings: &mut Lendings,
+    accesses: &mut AccessCounter,
 ) -> Grant
     requires out { (s : Standing C) × (map.get records.old.places k.number ≡ Some s)
         × (places.is_out s.place ≡ true) }
@@ -208,9 +212,9 @@ pub(super) fn close_and_grant<C: Drop>(
     ensures state { records.new ≡ machine.after_grant false result
         (machine.after_close false k.number records.old) }
     ensures numbers { records.old.next ≤ end_of_numbers }
-    ensures examined { AddsLent 0 1 lendings.old lendings.new }
+    ensures examined { AddsReads 0 1 accesses.old accesses.new }
 {
-    records.close(k, lendings);
+    records.close(k, accesses);
     let wanted = want(config, handles, records);
     records.grant(wanted, false)
 }

@@ -7,10 +7,10 @@ ghost use Rattle.bb8_types.specs.Bounds.{end_of_numbers};
 ghost use Rattle.bb8_types.specs.Places as places;
 ghost use Rattle.bb8_types.specs.Settings.{is_lawful};
 ghost use Rattle.bb8_core.specs.Endings.{endings_of};
-ghost use Rattle.bb8_core.specs.StateView.{Represents, examined, searched, IsWithinLimits, TellsFitting, TellsRecord, TellsGet, IsRecordIn, IsNoRecordIn, IsGetIn, IsNoGetIn};
+ghost use Rattle.bb8_core.specs.StateView.{Represents, examined, searched, IsWithinLimits, ReportsFitting, ReportsRecord, ReportsGet, IsRecordIn, IsNoRecordIn, IsGetIn, IsNoGetIn};
 
 use super::{GetKey, Key, PoolInternals};
-use bb8_tables::Lendings;
+use bb8_tables::AccessCounter;
 use bb8_tables::gets::{held, is_trying};
 use bb8_types::standing::Getting;
 
@@ -31,14 +31,14 @@ impl<C: Drop, A> PoolInternals<C, A> {
     pub fn examined(&self) -> u64
         ensures { result ≡ examined self.now }
     {
-        self.lendings.lent()
+        self.accesses.reads()
     }
 
     /// Returns how often the latest step searched a table, because a key had a stale hint.
     pub fn searched(&self) -> u64
         ensures { result ≡ searched self.now }
     {
-        self.lendings.searched()
+        self.accesses.searched()
     }
 
     /// Returns the number of the next connection or approval.
@@ -61,35 +61,36 @@ impl<C: Drop, A> PoolInternals<C, A> {
 
     /// Returns whether a get may begin: while a handle is alive.
     pub fn fits_begin(&self) -> bool
-        ensures { TellsFitting self.now acts.Begin result }
+        ensures { ReportsFitting self.now acts.Begin result }
     {
         self.handles != 0
     }
 
     /// Returns whether any connection may be added: while a handle is alive.
     pub fn fits_add(&self) -> bool
-        ensures { (conn : C) (broken : Bool) → TellsFitting self.now (acts.Add conn broken) result }
+        ensures { (conn : C) (broken : Bool) → ReportsFitting self.now
+            (acts.Add conn broken) result }
     {
         self.handles >= 1
     }
 
     /// Returns whether a handle may be added: while one is alive.
     pub fn fits_join(&self) -> bool
-        ensures { TellsFitting self.now acts.Join result }
+        ensures { ReportsFitting self.now acts.Join result }
     {
         self.fits_begin()
     }
 
     /// Returns whether the pool may be closed: while a handle is alive.
     pub fn fits_close(&self) -> bool
-        ensures { TellsFitting self.now acts.Close result }
+        ensures { ReportsFitting self.now acts.Close result }
     {
         self.fits_join()
     }
 
     /// Returns whether a handle may be dropped: while one is alive.
     pub fn fits_leave(&self) -> bool
-        ensures { TellsFitting self.now acts.Leave result }
+        ensures { ReportsFitting self.now acts.Leave result }
     {
         self.fits_join()
     }
@@ -101,22 +102,22 @@ impl<C: Drop> PoolInternals<C> {
         ensures { (l : ledger.Ledger C) → Represents l self.now
             → result ≡ ledger.get_of l get.number }
     {
-        let mut lendings = Lendings::none();
-        let getting = self.gets.getting(get, &mut lendings);
-        self.asking.forget(lendings);
+        let mut accesses = AccessCounter::none();
+        let getting = self.gets.getting(get, &mut accesses);
+        self.asking.forget(accesses);
         getting
     }
 
     /// Returns whether a get may try.
     pub fn fits_try(&self, get: GetKey) -> bool
-        ensures { TellsFitting self.now (acts.Try get.number) result }
+        ensures { ReportsFitting self.now (acts.Try get.number) result }
     {
         is_trying(self.getting(get))
     }
 
     /// Returns whether a passed check of a get may be reported: if it holds a connection.
     pub fn fits_checked_ok(&self, get: GetKey) -> bool
-        ensures { TellsFitting self.now (acts.CheckedOk get.number) result }
+        ensures { ReportsFitting self.now (acts.CheckedOk get.number) result }
     {
         self.held(get).is_some()
     }
@@ -131,28 +132,38 @@ impl<C: Drop> PoolInternals<C> {
 
     /// Returns whether a get is alive.
     pub(crate) fn is_alive(&self, get: GetKey) -> bool
-        ensures { TellsGet (λ g. is_some g) self.now get.number result }
+        ensures { ReportsGet (λ g. is_some g) self.now get.number result }
     {
         self.getting(get).is_some()
     }
 
     /// Returns whether a guard holds the connection.
     pub(crate) fn is_guarded(&self, k: Key) -> bool
-        ensures { TellsRecord (places.stands places.is_guarded) self.now k.number result }
+        ensures { ReportsRecord (places.stands places.is_guarded) self.now k.number result }
     {
-        let mut lendings = Lendings::none();
-        let is_guarded = self.records.is_guarded(k, &mut lendings);
-        self.asking.forget(lendings);
+        let mut accesses = AccessCounter::none();
+        let is_guarded = self.records.is_guarded(k, &mut accesses);
+        self.asking.forget(accesses);
         is_guarded
+    }
+
+    /// Returns whether the number is that of an idle connection, and so whether it may be evicted.
+    pub fn is_idle(&self, k: Key) -> bool
+        ensures { ReportsFitting self.now (acts.Evict k.number) result }
+    {
+        let mut accesses = AccessCounter::none();
+        let is_idle = self.records.is_idle(k, &mut accesses);
+        self.asking.forget(accesses);
+        is_idle
     }
 
     /// Returns whether the number is that of a claimed approval.
     pub(crate) fn is_claimed(&self, k: Key) -> bool
-        ensures { TellsRecord (places.stands places.is_claimed) self.now k.number result }
+        ensures { ReportsRecord (places.stands places.is_claimed) self.now k.number result }
     {
-        let mut lendings = Lendings::none();
-        let is_claimed = self.records.is_claimed(k, &mut lendings);
-        self.asking.forget(lendings);
+        let mut accesses = AccessCounter::none();
+        let is_claimed = self.records.is_claimed(k, &mut accesses);
+        self.asking.forget(accesses);
         is_claimed
     }
 
@@ -161,9 +172,9 @@ impl<C: Drop> PoolInternals<C> {
         ensures some { IfSome result (λ k. (k.number ≡ number) × IsRecordIn self.now number) }
         ensures none { IfNone result (IsNoRecordIn self.now number) }
     {
-        let mut lendings = Lendings::none();
-        let found = self.records.find(number, &mut lendings);
-        self.asking.forget(lendings);
+        let mut accesses = AccessCounter::none();
+        let found = self.records.find(number, &mut accesses);
+        self.asking.forget(accesses);
         found
     }
 
@@ -172,9 +183,9 @@ impl<C: Drop> PoolInternals<C> {
         ensures some { IfSome result (λ g. (g.number ≡ number) × IsGetIn self.now number) }
         ensures none { IfNone result (IsNoGetIn self.now number) }
     {
-        let mut lendings = Lendings::none();
-        let found = self.gets.find(number, &mut lendings);
-        self.asking.forget(lendings);
+        let mut accesses = AccessCounter::none();
+        let found = self.gets.find(number, &mut accesses);
+        self.asking.forget(accesses);
         found
     }
 

@@ -1,14 +1,15 @@
-//! The reap, and the retirement of everything that exists.
-ghost use Rattle.std.specs.Prelude.{◌≡◌, ◌+◌, ◌≤◌};
+//! The reap, the eviction of one idle connection, and the retirement of everything that exists.
+ghost use Rattle.std.specs.Prelude.{◌≡◌, ◌+◌, ◌≤◌, IfOk};
 ghost use Rattle.bb8_ledger.specs.Acts as acts;
 ghost use Rattle.bb8_core.specs.Closings.{OffersReaped, OffersRetired};
-ghost use Rattle.bb8_core.specs.Parts.{out_of, IsCounted};
-ghost use Rattle.bb8_core.specs.StateView.{Represents, Meets, Lends, Searches, IsWithinLimits};
-ghost use Rattle.bb8_core.specs.StepAnswers.{answer_of_reap, closed_in};
+ghost use Rattle.bb8_core.specs.StepBounds.{out_of, IsBounded};
+ghost use Rattle.bb8_core.specs.StateView.{Represents, Steps};
+ghost use Rattle.bb8_core.specs.StepAnswers.{answer_of_evict, answer_of_reap, closed_in, HandsOutIdle};
+ghost use Rattle.bb8_core.specs.Unfit.{Stepped};
 
 use super::decided::{retiring, want};
-use super::{ClosedList, PoolInternals, ReapAnswer};
-use bb8_tables::Lendings;
+use super::{ClosedList, EvictAnswer, Key, PoolInternals, ReapAnswer, Unfit};
+use bb8_tables::AccessCounter;
 use bb8_types::api::Moment;
 
 impl<C: Drop, A> PoolInternals<C, A> {
@@ -18,14 +19,39 @@ impl<C: Drop, A> PoolInternals<C, A> {
     /// dropped here. If no handle is alive, only the latest moment changes. It reads the entries of
     /// the connections that end, at most those of checked-out ones, and two more.
     pub fn reap(&mut self, at: Moment) -> ReapAnswer
-        ensures step { Meets self.old at.0 acts.Reap (answer_of_reap result) self.new }
-        ensures counts { IsCounted self.old 0 0 self.new }
-        ensures examined { Lends (closed_in result + out_of self.old + 2) self.old self.new }
-        ensures searched { Searches 0 self.new }
-        ensures limits { IsWithinLimits self.old }
+        ensures step { Steps self.old at.0 acts.Reap (answer_of_reap result) self.new }
+        ensures bounds { IsBounded 0 0 (closed_in result + out_of self.old + 2) 0
+            self.old self.new }
     {
         let mut dropped = self.records.no_list();
         self.reap_into(at, &mut dropped)
+    }
+
+    /// Evicts an idle connection, for the caller to drop. Its record ends, what is wanted is
+    /// granted, and the longest waiter is notified, as when a guard detaches it. If the number is
+    /// not that of an idle connection, nothing changes. It is looked up once.
+    pub fn evict(&mut self, at: Moment, k: Key) -> Result<EvictAnswer<C>, Unfit>
+        ensures step { Stepped Steps (answer_of_evict k.number)
+            self.old at.0 (acts.Evict k.number) result self.new }
+        ensures connection { IfOk result (HandsOutIdle self.old k.number) }
+        ensures bounds { IsBounded 0 0 4 1 self.old self.new }
+    {
+        let mut accesses = AccessCounter::none();
+        match self.records.evict(k, &mut accesses) {
+            None => {
+                self.accesses.end_unfit(accesses);
+                Err(Unfit)
+            }
+            Some(conn) => {
+                self.latest = self.latest.max(at.0);
+                let wanted = want(&self.config, self.handles, &self.records);
+                let grant = self.records.grant(wanted, false);
+                self.counters.detach();
+                let notified = self.gets.notify(&mut accesses);
+                self.accesses.end(accesses);
+                Ok(EvictAnswer::Evicted(conn, grant, notified))
+            }
+        }
     }
 
     /// Retires all connections and approvals that have numbers now. Idle connections are closed,
@@ -33,36 +59,31 @@ impl<C: Drop, A> PoolInternals<C, A> {
     /// opened. No get is notified. The connections are dropped here. While no handle is alive, none
     /// is idle.
     pub fn retire(&mut self, at: Moment) -> ReapAnswer
-        ensures step { Meets self.old at.0 acts.Retire (answer_of_reap result) self.new }
-        ensures counts { IsCounted self.old 0 0 self.new }
-        ensures examined { Lends (closed_in result + out_of self.old + 2) self.old self.new }
-        ensures searched { Searches 0 self.new }
-        ensures limits { IsWithinLimits self.old }
+        ensures step { Steps self.old at.0 acts.Retire (answer_of_reap result) self.new }
+        ensures bounds { IsBounded 0 0 (closed_in result + out_of self.old + 2) 0
+            self.old self.new }
     {
         let mut dropped = self.records.no_list();
         self.retire_into(at, &mut dropped)
     }
 
     /// As `reap`, but moves the connections that it closes into a list, in the order in which it
-    /// closes them. Those for which the list has no room are dropped.
+    /// closes them. Those for which the list has no capacity are dropped.
     pub fn reap_into(&mut self, at: Moment, closed: &mut ClosedList<C>) -> ReapAnswer
         ensures closed { OffersReaped self.old at.0 result closed.old closed.new }
-        ensures step { Meets self.old at.0 acts.Reap (answer_of_reap result) self.new }
-        ensures counts { IsCounted self.old 0 0 self.new }
-        ensures examined { Lends (closed_in result + out_of self.old + 2) self.old self.new }
-        ensures searched { Searches 0 self.new }
-        ensures limits { IsWithinLimits self.old }
+        ensures step { Steps self.old at.0 acts.Reap (answer_of_reap result) self.new }
+        ensures bounds { IsBounded 0 0 (closed_in result + out_of self.old + 2) 0
+            self.old self.new }
     {
-        self.limits();
         let now = self.latest.max(at.0);
         self.latest = now;
-        let mut lendings = Lendings::none();
+        let mut accesses = AccessCounter::none();
         if self.handles == 0 {
-            self.lendings.end(lendings);
+            self.accesses.end(accesses);
             return ReapAnswer::Ended;
         }
-        let reaped = self.records.reap(&self.config, now, closed, &mut lendings);
-        self.lendings.end(lendings);
+        let reaped = self.records.reap(&self.config, now, closed, &mut accesses);
+        self.accesses.end(accesses);
         let wanted = want(&self.config, self.handles, &self.records);
         let grant = self.records.grant(wanted, false);
         self.counters.reap(reaped.by_idle, reaped.by_life);
@@ -77,26 +98,23 @@ impl<C: Drop, A> PoolInternals<C, A> {
     /// As `retire`, but moves the connections that it closes into a list, as `reap_into` does.
     pub fn retire_into(&mut self, at: Moment, closed: &mut ClosedList<C>) -> ReapAnswer
         ensures closed { OffersRetired self.old at.0 result closed.old closed.new }
-        ensures step { Meets self.old at.0 acts.Retire (answer_of_reap result) self.new }
-        ensures counts { IsCounted self.old 0 0 self.new }
-        ensures examined { Lends (closed_in result + out_of self.old + 2) self.old self.new }
-        ensures searched { Searches 0 self.new }
-        ensures limits { IsWithinLimits self.old }
+        ensures step { Steps self.old at.0 acts.Retire (answer_of_reap result) self.new }
+        ensures bounds { IsBounded 0 0 (closed_in result + out_of self.old + 2) 0
+            self.old self.new }
     {
-        self.limits();
         let now = self.latest.max(at.0);
         self.latest = now;
         self.retired = self.records.next_number();
-        let mut lendings = Lendings::none();
+        let mut accesses = AccessCounter::none();
         if self.handles == 0 {
-            self.lendings.end(lendings);
+            self.accesses.end(accesses);
             return ReapAnswer::Ended;
         }
         self.closed_below = self.retired;
         // A reap at which every idle connection has lived too long.
         let all = retiring(&self.config);
-        let reaped = self.records.reap(&all, now, closed, &mut lendings);
-        self.lendings.end(lendings);
+        let reaped = self.records.reap(&all, now, closed, &mut accesses);
+        self.accesses.end(accesses);
         let wanted = want(&self.config, self.handles, &self.records);
         let grant = self.records.grant(wanted, false);
         let count = reaped.closed;

@@ -33,7 +33,7 @@ fn one_idle(rt: &impl Abort, alloc: Global) -> PoolInternals<Colour> {
     pool
 }
 
-/// Returns the state of a pool whose connections, this many, are all idle.
+/// Returns the state of a pool with this number of connections, all idle.
 fn shown(connections: u32, statistics: Statistics) -> State {
     State {
         connections,

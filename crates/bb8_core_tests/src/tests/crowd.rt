@@ -1,4 +1,4 @@
-//! 25,000 waiting gets: who is notified, what is counted, and that no step reads more than four
+//! 25,000 waiting gets: the notified one, the statistics, and that a step reads at most four
 //! entries.
 
 use super::{assert_equal, granted, unchecked};
@@ -114,7 +114,7 @@ fn cancel(rt: &impl Abort, pool: &mut PoolInternals<u32>, get: GetKey) {
     let answer = pool.give_up(NOW, get, Reason::Cancelled, false);
     assert_few(rt, pool);
     let Ok(GiveUpAnswer::GaveUp(None)) = answer else {
-        panic!(rt; "{get:?} is not alive, or handed a notification on");
+        panic!(rt; "{get:?} is not alive, or passed a notification on");
     };
 }
 
@@ -133,37 +133,37 @@ fn serve_from(rt: &impl Abort, pool: &mut PoolInternals<u32>, first: GetKey) -> 
 
 /// Asserts how many entries the latest step read, and that it searched for none, as each key has
 /// the index of its number.
-fn assert_lent(rt: &impl Abort, pool: &PoolInternals<u32>, wanted: u64) {
+fn assert_reads(rt: &impl Abort, pool: &PoolInternals<u32>, wanted: u64) {
     assert_equal(&rt, (pool.examined(), pool.searched()), (wanted, 0));
 }
 
 #[test]
-fn steps_tell_what_they_lent(rt: HostRuntime) {
+fn steps_report_what_they_read(rt: HostRuntime) {
     let mut pool = crowded(&rt, rt.alloc(), 1);
-    assert_lent(&rt, &pool, 0);
+    assert_reads(&rt, &pool, 0);
     // A get begins; then its entry is read, and it waits.
     let get = begin(&rt, &mut pool);
-    assert_lent(&rt, &pool, 0);
+    assert_reads(&rt, &pool, 0);
     let TryAnswer::Waiting(_) = try_get(&rt, &mut pool, get) else {
         panic!(rt; "it was served");
     };
-    assert_lent(&rt, &pool, 2);
+    assert_reads(&rt, &pool, 2);
     // Its approval is read and becomes idle, and the get is notified.
     let notified = open(&rt, &mut pool, 0);
-    assert_lent(&rt, &pool, 3);
+    assert_reads(&rt, &pool, 3);
     assert_equal(&rt, notified.map(|get| get.number), Some(0));
     // The get is read and ends, and the connection is checked out; then the connection is read, and
     // is idle again.
     let (key, conn) = served_by(&rt, &mut pool, get);
-    assert_lent(&rt, &pool, 2);
+    assert_reads(&rt, &pool, 2);
     assert!(rt; put_back(&rt, &mut pool, key, conn).is_none());
-    assert_lent(&rt, &pool, 2);
+    assert_reads(&rt, &pool, 2);
     // A get that is given up is read.
     let get = begin(&rt, &mut pool);
     cancel(&rt, &mut pool, get);
-    assert_lent(&rt, &pool, 1);
+    assert_reads(&rt, &pool, 1);
     let _ = pool.state(NOW);
-    assert_lent(&rt, &pool, 0);
+    assert_reads(&rt, &pool, 0);
 }
 
 /// 25,000 gets wait for three connections. Each notified one tries, is served and returns its
@@ -209,7 +209,7 @@ fn crowd_is_served_over_three_connections(rt: HostRuntime) {
 /// Of 25,000 waiters the first and then every second one are cancelled. One opened connection
 /// notifies get 1, and its return get 3.
 #[test]
-fn oldest_that_is_left_is_notified(rt: HostRuntime) -> Result<(), Fail> {
+fn oldest_remaining_waiter_is_notified(rt: HostRuntime) -> Result<(), Fail> {
     let mut pool = crowded(&rt, rt.alloc(), 1);
     let mut gets = Vec::new(rt.alloc());
     for _ in 0..CROWD {

@@ -48,7 +48,7 @@ fn out(
     is_checked: bool,
     conn: Colour,
 ) -> (Key, Colour) {
-    let (key, found, checks) = match tried.expect(rt, "a get was told") {
+    let (key, found, checks) = match tried.expect(rt, "a get was notified") {
         TryAnswer::Served(key, found, _) => (key, found, false),
         TryAnswer::Taken(key, found, _) => (key, found, true),
         TryAnswer::Waiting(_) => panic!(rt; "the get waits"),
@@ -71,27 +71,27 @@ fn assert_waits(rt: &impl Abort, tried: Option<TryAnswer<Colour>>, first: u64, c
 /// 1; it is returned broken, and 2 requests another, which serves it when it is opened. Nobody
 /// waits when that one is returned, and it cannot be returned twice.
 #[test]
-fn succeeds_handing_over_in_turn(rt: HostRuntime) {
+fn succeeds_hand_offs_in_order(rt: HostRuntime) {
     let mut pool = one(&rt, rt.alloc(), false);
     wait(&rt, &mut pool);
     wait(&rt, &mut pool);
     wait(&rt, &mut pool);
     let approval = claim(&rt, &mut pool, 0);
-    let HandedOver { told, tried } = opened(&mut pool, NOW, approval, Colour::Red);
-    let Ok(OpenedAnswer::Entered(Some(get))) = told else {
+    let HandedOver { outcome, tried } = opened(&mut pool, NOW, approval, Colour::Red);
+    let Ok(OpenedAnswer::Entered(Some(get))) = outcome else {
         panic!(rt; "nobody was notified");
     };
     assert_equal(&rt, get.number, 0);
     let (key, conn) = out(&rt, tried, false, Colour::Red);
-    let HandedOver { told, tried } = put_back(&mut pool, NOW, key, conn, false);
-    let Ok(PutBackAnswer::Kept(Some(get))) = told else {
+    let HandedOver { outcome, tried } = put_back(&mut pool, NOW, key, conn, false);
+    let Ok(PutBackAnswer::Kept(Some(get))) = outcome else {
         panic!(rt; "nobody was notified");
     };
     assert_equal(&rt, get.number, 1);
     let (key, conn) = out(&rt, tried, false, Colour::Red);
     assert_equal(&rt, key.number, 0);
-    let HandedOver { told, tried } = put_back(&mut pool, NOW, key, conn, true);
-    let Ok(PutBackAnswer::Closed(Colour::Red, _, Some(get))) = told else {
+    let HandedOver { outcome, tried } = put_back(&mut pool, NOW, key, conn, true);
+    let Ok(PutBackAnswer::Closed(Colour::Red, _, Some(get))) = outcome else {
         panic!(rt; "nobody was notified");
     };
     assert_equal(&rt, get.number, 2);
@@ -100,23 +100,23 @@ fn succeeds_handing_over_in_turn(rt: HostRuntime) {
     let HandedOver { tried, .. } = opened(&mut pool, NOW, approval, Colour::Green);
     let (key, conn) = out(&rt, tried, false, Colour::Green);
     assert_equal(&rt, pool.state(NOW).idle_connections, 0);
-    let HandedOver { told, tried } = put_back(&mut pool, NOW, key, conn, false);
-    assert!(rt; matches!(told, Ok(PutBackAnswer::Kept(None))));
+    let HandedOver { outcome, tried } = put_back(&mut pool, NOW, key, conn, false);
+    assert!(rt; matches!(outcome, Ok(PutBackAnswer::Kept(None))));
     assert!(rt; tried.is_none());
-    let HandedOver { told, tried } = put_back(&mut pool, NOW, key, Colour::Blue, false);
-    assert!(rt; matches!(told, Err(Colour::Blue)));
+    let HandedOver { outcome, tried } = put_back(&mut pool, NOW, key, Colour::Blue, false);
+    assert!(rt; matches!(outcome, Err(Colour::Blue)));
     assert!(rt; tried.is_none());
 }
 
 /// Get 0 waits, and requested approval 0. A connection is added as 1, and serves 0.
 #[test]
-fn added_connection_is_handed_over(rt: HostRuntime) {
+fn added_connection_is_handed_off(rt: HostRuntime) {
     let config = unchecked(2, None);
     assert!(rt; config.is_lawful());
     let mut pool = PoolInternals::new(rt.alloc(), config);
     wait(&rt, &mut pool);
-    let HandedOver { told, tried } = add(&mut pool, NOW, Colour::Blue, false);
-    let Ok(AddAnswer::Added(_, Some(get))) = told else {
+    let HandedOver { outcome, tried } = add(&mut pool, NOW, Colour::Blue, false);
+    let Ok(AddAnswer::Added(_, Some(get))) = outcome else {
         panic!(rt; "nobody was notified");
     };
     assert_equal(&rt, get.number, 0);
@@ -127,7 +127,7 @@ fn added_connection_is_handed_over(rt: HostRuntime) {
 /// Gets 0, 1 and 2 wait for one connection, with the check on. 0 takes it and is cancelled, and 1
 /// takes it; its check fails, and 2 requests another.
 #[test]
-fn check_hands_over(rt: HostRuntime) {
+fn failed_check_hands_off(rt: HostRuntime) {
     let mut pool = one(&rt, rt.alloc(), true);
     let first = wait(&rt, &mut pool);
     let second = wait(&rt, &mut pool);
@@ -135,7 +135,7 @@ fn check_hands_over(rt: HostRuntime) {
     let approval = claim(&rt, &mut pool, 0);
     let HandedOver { tried, .. } = opened(&mut pool, NOW, approval, Colour::Red);
     let (key, conn) = out(&rt, tried, true, Colour::Red);
-    let HandedOver { told, tried } = give_back(
+    let HandedOver { outcome, tried } = give_back(
         &mut pool,
         NOW,
         first,
@@ -144,13 +144,13 @@ fn check_hands_over(rt: HostRuntime) {
         false,
         key.place,
     );
-    let Ok(GiveUpAnswer::Kept(kept, Some(get))) = told else {
+    let Ok(GiveUpAnswer::Kept(kept, Some(get))) = outcome else {
         panic!(rt; "nobody was notified");
     };
     assert_equal(&rt, (kept.number, get.number), (0, 1));
     let (key, conn) = out(&rt, tried, true, Colour::Red);
-    let HandedOver { told, tried } = checked_err(&mut pool, NOW, second, conn, false, key.place);
-    let Ok(CheckedErrAnswer::Closed(closed, Colour::Red, _, Some(get))) = told else {
+    let HandedOver { outcome, tried } = checked_err(&mut pool, NOW, second, conn, false, key.place);
+    let Ok(CheckedErrAnswer::Closed(closed, Colour::Red, _, Some(get))) = outcome else {
         panic!(rt; "nobody was notified");
     };
     assert_equal(&rt, (closed.number, get.number), (0, 2));
@@ -160,7 +160,7 @@ fn check_hands_over(rt: HostRuntime) {
 /// Get 0 has the only connection, and 1 and 2 wait. It is returned without a hand-off; 1 was
 /// notified and gives up, and 2 is served.
 #[test]
-fn give_up_hands_on(rt: HostRuntime) {
+fn give_up_passes_the_notification_on(rt: HostRuntime) {
     let mut pool = one(&rt, rt.alloc(), false);
     wait(&rt, &mut pool);
     let second = wait(&rt, &mut pool);
@@ -171,8 +171,8 @@ fn give_up_hands_on(rt: HostRuntime) {
     let Ok(PutBackAnswer::Kept(Some(_))) = pool.put_back(NOW, key, conn, false) else {
         panic!(rt; "nobody was notified");
     };
-    let HandedOver { told, tried } = give_up(&mut pool, NOW, second, Reason::TimedOut, false);
-    let Ok(GiveUpAnswer::GaveUp(Some(get))) = told else {
+    let HandedOver { outcome, tried } = give_up(&mut pool, NOW, second, Reason::TimedOut, false);
+    let Ok(GiveUpAnswer::GaveUp(Some(get))) = outcome else {
         panic!(rt; "nobody was notified");
     };
     assert_equal(&rt, get.number, 2);

@@ -1,8 +1,10 @@
-//! Reaps of many connections, of which some are checked out or must stay.
+//! Reaps of many connections. Some of them are checked out or must stay.
 
 use super::{SECOND, assert_equal, unchecked};
 use bb8_core::api::{Config, Moment, QueueStrategy};
-use bb8_core::internals::{BeginAnswer, Key, PoolInternals, PutBackAnswer, ReapAnswer, TryAnswer};
+use bb8_core::internals::{
+    BeginAnswer, EvictAnswer, Key, PoolInternals, PutBackAnswer, ReapAnswer, TryAnswer,
+};
 use std::alloc::Global;
 use std::process::Abort;
 use std::time::Duration;
@@ -66,7 +68,7 @@ fn crowd(rt: &impl Abort, alloc: Global, old: u64) -> PoolInternals<u64> {
 /// closes none. If 40 idle ones are as old, it closes these. It reads those, the three, the next
 /// one by birth, and the one that has been idle longest.
 #[test]
-fn reap_passes_what_is_out_and_old(rt: HostRuntime) {
+fn reap_keeps_old_connections_that_are_out(rt: HostRuntime) {
     for (old, left) in [(0, 1000), (40, 960)] {
         let mut pool = crowd(&rt, rt.alloc(), old);
         assert_equal(&rt, pool.state(Moment(0)).connections, 1000);
@@ -102,7 +104,7 @@ fn many_idle(rt: &impl Abort, alloc: Global, queue_strategy: QueueStrategy) -> P
 /// first, with either strategy, and reads no others. Once the last one has reached the timeout,
 /// too, there is nothing left to close.
 #[test]
-fn reap_spares_what_is_to_be_idle(rt: HostRuntime) {
+fn reap_keeps_min_idle(rt: HostRuntime) {
     for (queue_strategy, back, closed, stays, next) in [
         (QueueStrategy::Fifo, 0, 1..11, 11, 11),
         (QueueStrategy::Lifo, 999, 0..10, 10, 999),
@@ -121,4 +123,24 @@ fn reap_spares_what_is_to_be_idle(rt: HostRuntime) {
         let (served, _) = serve(&rt, &mut pool, Moment(2 * SECOND));
         assert_equal(&rt, served.number, next);
     }
+}
+
+/// One of 1,000 idle connections is evicted from the middle of the queue, once. That reads its
+/// entry alone.
+#[test]
+fn evict_takes_one_by_its_number(rt: HostRuntime) {
+    let mut pool = many_idle(&rt, rt.alloc(), QueueStrategy::Fifo);
+    let Some(key) = pool.find(500) else {
+        panic!(rt; "it is gone");
+    };
+    assert!(rt; pool.is_idle(key));
+    let Ok(EvictAnswer::Evicted(conn, grant, None)) = pool.evict(Moment(SECOND), key) else {
+        panic!(rt; "it was not evicted");
+    };
+    assert_equal(&rt, (conn, grant.count), (500, 0));
+    assert_equal(&rt, (pool.examined(), pool.searched()), (1, 0));
+    assert!(rt; !pool.is_idle(key) && pool.evict(Moment(SECOND), key).is_err());
+    let state = pool.state(Moment(0));
+    assert_equal(&rt, (state.connections, state.idle_connections), (999, 999));
+    assert_equal(&rt, state.statistics.connections_detached, 1);
 }

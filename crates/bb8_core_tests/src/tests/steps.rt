@@ -55,7 +55,7 @@ fn take(rt: &impl Abort, pool: &mut PoolInternals<Colour>) -> (Key, Colour) {
 
 /// Opens the connection of the approval with this number.
 fn enter(rt: &impl Abort, pool: &mut PoolInternals<Colour>, number: u64, conn: Colour) {
-    let key = pool.find(number).expect(rt, "the approval stands");
+    let key = pool.find(number).expect(rt, "the approval is open");
     let Ok(OpenedAnswer::Entered(None)) = pool.opened(NOW, key, conn) else {
         panic!(rt; "{number} did not become idle, or notified somebody");
     };
@@ -130,7 +130,7 @@ fn succeeds_each_step_once(rt: HostRuntime) {
 }
 
 #[test]
-fn failed_opening_ends_its_approval(rt: HostRuntime) {
+fn failed_attempt_ends_its_approval(rt: HostRuntime) {
     let (mut pool, approval) = one_claimed(&rt, rt.alloc());
     assert!(rt; pool.failed(NOW, approval).is_ok());
     assert_equal(&rt, (pool.examined(), pool.searched()), (1, 0));

@@ -2,7 +2,7 @@
 //! of all seats.
 ghost use Rattle.std.specs.Prelude.{◌≡◌, ◌+◌, ◌≤◌, ◌++◌, ◌∷◌, [], true, IfOk, OnErr, IsOk, length, vec_len, vec_capacity, map, ℕ};
 ghost use Rattle.std.specs.List.{sum_by};
-ghost use Rattle.bb8_core.specs.declared.replay.events.Answer.{Answer as Told};
+ghost use Rattle.bb8_core.specs.declared.replay.events.Answer.{Answer as ReplayAnswer};
 ghost use Rattle.bb8_core.specs.Endings.{endings_of};
 ghost use Rattle.bb8_core.specs.Run.{Applies, IsTaken};
 ghost use Rattle.bb8_core.specs.StateView.{StateView};
@@ -50,7 +50,7 @@ impl Recorded for Brand {
 }
 
 /// A pool with its history. The entries replay to the pool, they are as many as the book counts
-/// steps, and there is room for an entry of each event that may still end something. Contracts see
+/// steps, and an entry is reserved for each event that may still end something. Contracts see
 /// its entries and its pool.
 #[derive(Drop)]
 pub struct Journal<L: Recorded> {
@@ -110,14 +110,14 @@ fn reserve(pool: &PoolInternals<u64>, history: &mut Vec<Entry>) -> bool
     }
 }
 
-/// Returns whether there is room for the entry of an event, and for those of the ending events
-/// after it. It allocates if needed. If memory is refused, an ending event that fits still has its
-/// room.
-fn make_room(pool: &PoolInternals<u64>, history: &mut Vec<Entry>, event: Event) -> bool
+/// Returns whether there is memory for the entry of an event, and for those of the ending events
+/// after it. It allocates if needed. If memory is refused, that of an ending event that fits is
+/// still reserved.
+fn reserve_for(pool: &PoolInternals<u64>, history: &mut Vec<Entry>, event: Event) -> bool
     requires { vec_len history.old + endings_of pool.now ≤ vec_capacity history.old }
     ensures items { history.new.items ≡ history.old.items }
     ensures len { vec_len history.new ≡ vec_len history.old }
-    ensures room { result ≡ true → (answer : Told) (after : StateView ℕ)
+    ensures room { result ≡ true → (answer : ReplayAnswer) (after : StateView ℕ)
         → Applies pool.now event answer after
         → vec_len history.new + 1 + endings_of after ≤ vec_capacity history.new }
     ensures kept { vec_capacity history.old ≤ vec_capacity history.new }
@@ -157,7 +157,7 @@ impl<L: Recorded> Journal<L> {
             steps,
             rest: _,
         } = self;
-        if !make_room(pool, history, event) {
+        if !reserve_for(pool, history, event) {
             return Err(NoRoom);
         }
         let index = history.len() as u64;
@@ -183,7 +183,7 @@ impl<L: Recorded> Journal<L> {
     }
 
     /// Returns a journal without entries. The book is new, and the share has none of its parts.
-    /// Room is reserved for the end of the one handle.
+    /// An entry is reserved for the end of the one handle.
     pub(crate) fn new(
         alloc: Global,
         config: Config,
@@ -209,7 +209,7 @@ impl<L: Recorded> Journal<L> {
 
     /// Returns the history, the final state, and the notes of all seats. Each seat's part of the
     /// ledger shows how many steps it made, so there are as many entries as steps of all seats. The
-    /// caller passes the list of notes, with room for those of each seat.
+    /// caller passes the list of notes, with capacity for those of each seat.
     pub(crate) fn close(
         self,
         seats: Vec<Seat<L>>,

@@ -4,7 +4,7 @@ ghost use Rattle.std.specs.Prelude.{◌≡◌, ◌≤◌, [], IfOk, vec_len, vec
 use bb8_core::api::Memory;
 use std::alloc::Global;
 
-/// Returns an empty list with room for `count` elements.
+/// Returns an empty list with capacity for `count` elements.
 pub(crate) fn with_room<T: Drop>(alloc: Global, count: usize) -> Result<Vec<T>, Memory>
     ensures empty { IfOk result (λ list. list.items ≡ []) }
     ensures len { IfOk result (λ list. vec_len list ≡ 0) }

@@ -17,7 +17,7 @@ pub struct Notes {
     pub missing: u64,
 }
 
-/// One thread's place at a journal. It has one part of the journal's ledger, whose amount is the
+/// One thread's access to a journal. It has one part of the journal's ledger, whose amount is the
 /// count of its steps. Contracts see its notes.
 #[derive(Drop)]
 pub struct Seat<L: Ledger> {

@@ -27,7 +27,7 @@ struct Seats<L: Ledger> {
     ghost some: { 0 < count },
 }
 
-/// A journal behind its lock, and room for the notes of each seat.
+/// A journal behind its lock, and memory for the notes of each seat.
 #[derive(Drop)]
 pub struct SharedJournal<L: Recorded> {
     journal: Mutex<Journal<L>>,

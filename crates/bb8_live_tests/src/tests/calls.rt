@@ -2,7 +2,7 @@
 //! pool's lock, nor a connection dropped that a call closed: during each one the pool serves
 //! another thread.
 ghost use Rattle.std.specs.Prelude.{Some, false};
-ghost use Rattle.bb8.specs.Parts.{IsBlankOf};
+ghost use Rattle.bb8.specs.Permits.{IsBlankOf};
 ghost use Rattle.bb8.specs.Settings.{default_settings};
 
 mod blocking;
@@ -11,7 +11,7 @@ mod retiring;
 use super::assert_equal;
 use bb8::{
     Builder, Cancel, Clock, CustomizeConnection, Driver, DriverCalls, ErrorSink, Gate, GetFuture,
-    Gets, Job, ManageConnection, Memory, Moment, Pool, PoolCalls, PoolParts, Runtime, start,
+    Gets, Job, ManageConnection, Memory, Moment, Pool, PoolCalls, PoolPermits, Runtime, start,
 };
 use bb8_trials::{ARMED, Course, LOOKS, Number, OPEN, Refused, Unbuilt, WAITING};
 use futures::task::Poll;
@@ -36,7 +36,7 @@ const WRITTEN: usize = 16;
 /// The stage at which the other thread ends.
 const ENDED: u64 = 3;
 
-/// What a test shares with its pool's manager, customizer, sink and clock, and with the
+/// The state that a test shares with its pool's manager, customizer, sink and clock, and with the
 /// connections.
 #[derive(Drop)]
 pub(super) struct Desk {
@@ -320,7 +320,7 @@ type TellerGet<'a, R, L> = GetFuture<'a, Teller, Teller, Teller, Teller, R, L>;
 /// The pool's driver.
 type TellerDriver<R, L> = Driver<Teller, Teller, Teller, Teller, R, L>;
 
-/// What a test polls with, and what it looks at.
+/// The task, clock and logs of a test.
 #[derive(Drop)]
 struct Tools<'a, R> {
     rt: R,
@@ -335,14 +335,14 @@ impl<R: Runtime + Abort> Tools<'_, R> {
         made(&self.rt, self.desk, calls);
     }
 
-    fn add<L: PoolParts>(&self, pool: &TellerPool<R, L>) -> Result<(), Memory> {
+    fn add<L: PoolPermits>(&self, pool: &TellerPool<R, L>) -> Result<(), Memory> {
         drop(pool.add(connection(self.desk)?));
         self.made("has_broken now");
         Ok(())
     }
 
     /// Polls a get, and asserts these callbacks.
-    fn poll<L: PoolParts>(&self, get: &mut TellerGet<'_, R, L>, calls: &str) {
+    fn poll<L: PoolPermits>(&self, get: &mut TellerGet<'_, R, L>, calls: &str) {
         let polled = self.task.poll(get);
         self.made(calls);
         let served = matches!(&polled, Poll::Ready(Ok(_)));
@@ -358,7 +358,7 @@ impl<R: Runtime + Abort> Tools<'_, R> {
 
 /// A get that is served, one whose check is long pending, one that times out during it, and one
 /// whose connection is found broken when the get is cancelled.
-fn checked<R: Runtime + Abort, L: PoolParts>(
+fn checked<R: Runtime + Abort, L: PoolPermits>(
     tools: &Tools<'_, R>,
     pool: &TellerPool<R, L>,
 ) -> Result<(), Memory> {
@@ -394,7 +394,7 @@ fn checked<R: Runtime + Abort, L: PoolParts>(
 
 /// Gets that wait: one is cancelled, one times out. And gets whose check fails: one is cancelled
 /// then, and one waits and is served.
-fn waiting<R: Runtime + Abort, L: PoolParts>(
+fn waiting<R: Runtime + Abort, L: PoolPermits>(
     tools: &Tools<'_, R>,
     pool: &TellerPool<R, L>,
 ) -> Result<(), Memory> {
@@ -437,7 +437,7 @@ fn waiting<R: Runtime + Abort, L: PoolParts>(
 
 /// Gets with their own handle: one that is not polled, one that is served, and one that is
 /// cancelled during its check.
-fn owned<R: Runtime + Abort, L: PoolParts>(
+fn owned<R: Runtime + Abort, L: PoolPermits>(
     tools: &Tools<'_, R>,
     pool: &TellerPool<R, L>,
 ) -> Result<(), Memory> {
@@ -463,7 +463,7 @@ fn owned<R: Runtime + Abort, L: PoolParts>(
 
 /// Connections that the pool does not count: opened and prepared slowly; failing at the attempt or
 /// at the preparation; cancelled during the preparation.
-fn dedicated<R: Runtime + Abort, L: PoolParts>(tools: &Tools<'_, R>, pool: &TellerPool<R, L>) {
+fn dedicated<R: Runtime + Abort, L: PoolPermits>(tools: &Tools<'_, R>, pool: &TellerPool<R, L>) {
     let desk = tools.desk;
     let mut opening = pool.dedicated_connection();
     for (connects, prepares, calls) in &[
@@ -509,7 +509,7 @@ fn dedicated<R: Runtime + Abort, L: PoolParts>(tools: &Tools<'_, R>, pool: &Tell
 
 /// Closes all idle connections by failing checks, and has a get wait and be cancelled, so that one
 /// approval is open.
-fn approve<R: Runtime + Abort, L: PoolParts>(tools: &Tools<'_, R>, pool: &TellerPool<R, L>) {
+fn approve<R: Runtime + Abort, L: PoolPermits>(tools: &Tools<'_, R>, pool: &TellerPool<R, L>) {
     tools.desk.check.set(2);
     let mut get = pool.get();
     for _ in 0..pool.state().idle_connections.saturating_add(1) {
@@ -522,7 +522,7 @@ fn approve<R: Runtime + Abort, L: PoolParts>(tools: &Tools<'_, R>, pool: &Teller
 
 /// Turns, which read no clock: one connection is opened and prepared slowly, one attempt fails, and
 /// one preparation; and a driver is dropped during a preparation.
-fn turns<R: Runtime + Abort, L: PoolParts>(
+fn turns<R: Runtime + Abort, L: PoolPermits>(
     tools: &Tools<'_, R>,
     pool: &TellerPool<R, L>,
     driver: TellerDriver<R, L>,
@@ -574,14 +574,14 @@ fn handles<R: Runtime + Abort, P: bb8_trials::OwnedHandle<Teller>>(tools: &Tools
 
 /// Asks the pool for its state while a callback waits.
 #[derive(Drop)]
-struct Asker<R: Runtime + Abort, L: PoolParts> {
+struct Asker<R: Runtime + Abort, L: PoolPermits> {
     pool: TellerPool<R, L>,
     desk: Arc<Desk, Global>,
 }
 
-impl<R: Runtime + Abort, L: PoolParts> Job for Asker<R, L> {
+impl<R: Runtime + Abort, L: PoolPermits> Job for Asker<R, L> {
     /// How often it got the state.
-    type Told = u64;
+    type Output = u64;
 
     fn run(self, _thread: usize) -> u64 {
         let mut answered: u64 = 0;
@@ -602,7 +602,7 @@ impl<R: Runtime + Abort, L: PoolParts> Job for Asker<R, L> {
 }
 
 /// All calls of a pool with the check on, and of its driver.
-fn calls_with_checks<R: Runtime + Abort, L: PoolParts>(
+fn calls_with_checks<R: Runtime + Abort, L: PoolPermits>(
     tools: &Tools<'_, R>,
     pool: &TellerPool<R, L>,
 ) -> Result<(), Memory> {
@@ -627,7 +627,7 @@ fn calls_with_checks<R: Runtime + Abort, L: PoolParts>(
 }
 
 /// The calls of a pool. If asked for, each callback waits until another thread was served.
-fn calls_of_a_pool<R: Runtime + Abort + Threads, L: PoolParts + 'static>(
+fn calls_of_a_pool<R: Runtime + Abort + Threads, L: PoolPermits + 'static>(
     rt: R,
     blank: Blank,
     checks: bool,
@@ -726,7 +726,11 @@ fn calls_of_a_building<R: Runtime + Abort, B: Unbuilt<Teller>>(
 }
 
 /// Runs a build with these permits.
-fn builds<R: Runtime + Abort, L: PoolParts>(rt: R, blank: Blank, course: Course) -> Result<(), Fail>
+fn builds<R: Runtime + Abort, L: PoolPermits>(
+    rt: R,
+    blank: Blank,
+    course: Course,
+) -> Result<(), Fail>
     requires { IsBlankOf blank (record default_settings {
       max_size = 2;
       min_idle = Some 2;

@@ -8,7 +8,7 @@ use std::time::Duration;
 
 /// It returns what it was last set to, also if that is less, and through a clone.
 #[test]
-fn set_clock_tells_what_it_was_set_to(rt: HostRuntime) -> Result<(), Fail> {
+fn set_clock_returns_its_moment(rt: HostRuntime) -> Result<(), Fail> {
     let clock = SetClock::new(rt.alloc(), Moment(0))?;
     let copy = clock.try_clone()?;
     for moment in [Moment(9), Moment(3)] {

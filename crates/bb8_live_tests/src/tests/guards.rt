@@ -1,7 +1,7 @@
 //! Lists of guards.
 
 use super::{NumberTrial, SlowPool, Trial, assert_equal, try_numbers};
-use bb8::{Guards, GuardsCalls, Moment, PoolParts, Runtime};
+use bb8::{Guards, GuardsCalls, Moment, PoolPermits, Runtime};
 use bb8_trials::{LentHandle, SECOND};
 use futures::task::Poll;
 use futures::test::MockTask;
@@ -10,7 +10,7 @@ use std::test::Fail;
 
 /// Three guards go into a list. The first is taken out, and the others move up. One is changed in
 /// its place, and the drop of the list returns the rest.
-pub(super) fn gathers<R: Runtime + Abort, L: PoolParts>(
+pub(super) fn gathers<R: Runtime + Abort, L: PoolPermits>(
     rt: R,
     numbers: NumberTrial<R, L>,
 ) -> Result<(), Fail> {
@@ -56,7 +56,7 @@ fn succeeds_to_gather_three_guards(rt: HostRuntime) -> Result<(), Fail> {
 /// Three connections, ten seconds apart and 7 the oldest, are checked out when 7 exceeds its
 /// lifetime by a second. The guard from the middle of their list returns 8, which is kept. Of the
 /// rest, which the list returns, only 7 is closed.
-pub(super) fn keeps_the_young<R: Runtime + Abort, L: PoolParts>(
+pub(super) fn keeps_the_young<R: Runtime + Abort, L: PoolPermits>(
     rt: R,
     numbers: NumberTrial<R, L>,
 ) -> Result<(), Fail> {
@@ -83,13 +83,13 @@ pub(super) fn keeps_the_young<R: Runtime + Abort, L: PoolParts>(
 }
 
 /// Returns the connections of two gets.
-fn lent<R: Runtime, L: PoolParts>(pool: &SlowPool<R, L>, task: &MockTask) -> Option<(u64, u64)> {
+fn lent<R: Runtime, L: PoolPermits>(pool: &SlowPool<R, L>, task: &MockTask) -> Option<(u64, u64)> {
     let first = LentHandle::lend(pool, task)?;
     let second = LentHandle::lend(pool, task)?;
     Some((*first, *second))
 }
 
 #[test]
-fn list_gives_each_connection_back_under_its_own_key(rt: HostRuntime) -> Result<(), Fail> {
+fn list_returns_each_connection_under_its_key(rt: HostRuntime) -> Result<(), Fail> {
     try_numbers(rt, 3, Trial::ListOfAges)
 }

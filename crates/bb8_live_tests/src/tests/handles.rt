@@ -1,7 +1,7 @@
 //! How guards print, and which threads they may go to.
 
 use super::{NumberTrial, Trial, assert_equal, try_numbers};
-use bb8::{Gets, PoolCalls, PoolParts, Runtime};
+use bb8::{Gets, PoolCalls, PoolPermits, Runtime};
 use futures::task::Poll;
 use std::process::Abort;
 use std::test::Fail;
@@ -11,7 +11,7 @@ fn is_sent<T: Send>(_: &T) {}
 
 /// A pool prints without its parts, a guard as its connection. An owned guard reads and writes its
 /// connection, and may go to another thread, as its get may.
-pub(super) fn derefs<R: Runtime + Abort, L: PoolParts>(
+pub(super) fn derefs<R: Runtime + Abort, L: PoolPermits>(
     rt: R,
     numbers: NumberTrial<R, L>,
 ) -> Result<(), Fail> {

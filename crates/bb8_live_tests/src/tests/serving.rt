@@ -3,8 +3,8 @@ ghost use Rattle.std.specs.Prelude.{◌≡◌, Ok, IfOk, length};
 
 use super::{SlowManager, SlowPool, assert_equal};
 use bb8::{
-    Builder, Gets, Job, Memory, Moment, NopCustomizer, NopErrorSink, PoolCalls, PoolParts, Runtime,
-    Service, SetClock, start,
+    Builder, Gets, Job, Memory, Moment, NopCustomizer, NopErrorSink, PoolCalls, PoolPermits,
+    Runtime, Service, SetClock, start,
 };
 use futures::executor::block_on;
 use std::process::Abort;
@@ -48,12 +48,12 @@ impl<R: Runtime + Abort> CallCounter<R> {
 impl<R: Runtime + Abort> Service<SlowManager, NopErrorSink, NopCustomizer, SetClock, R>
     for CallCounter<R> {
     /// The thread's number, if its get was served.
-    type Told = Option<usize>;
+    type Output = Option<usize>;
 
     /// Whether all threads returned their numbers, in order; None if the connection was not added.
     type Outcome = Option<bool>;
 
-    fn begin<L: PoolParts>(&self, pool: &SlowPool<R, L>) -> Result<(), Option<bool>> {
+    fn begin<L: PoolPermits>(&self, pool: &SlowPool<R, L>) -> Result<(), Option<bool>> {
         self.begun.fetch_add(1, Ordering::SeqCst);
         match pool.add(self.connection) {
             Ok(()) => Ok(()),
@@ -62,23 +62,27 @@ impl<R: Runtime + Abort> Service<SlowManager, NopErrorSink, NopCustomizer, SetCl
     }
 
     /// Uses the thread's own handle.
-    fn run<L: PoolParts>(&self, pool: &SlowPool<R, L>, thread: usize) -> Option<usize> {
+    fn run<L: PoolPermits>(&self, pool: &SlowPool<R, L>, thread: usize) -> Option<usize> {
         self.run.fetch_add(1, Ordering::SeqCst);
         let handle = pool.try_clone().ok()?;
-        let told = match block_on(&self.rt, handle.get()) {
+        let results = match block_on(&self.rt, handle.get()) {
             Ok(Ok(guard)) if *guard == self.connection => Some(thread),
             _ => None,
         };
-        told
+        results
     }
 
-    fn end<L: PoolParts>(&self, _pool: &SlowPool<R, L>, told: &[Option<usize>]) -> Option<bool> {
+    fn end<L: PoolPermits>(
+        &self,
+        _pool: &SlowPool<R, L>,
+        results: &[Option<usize>],
+    ) -> Option<bool> {
         self.ended.fetch_add(1, Ordering::SeqCst);
-        let in_order = told
+        let in_order = results
             .iter()
             .enumerate()
             .all(|(thread, number)| *number == Some(thread));
-        Some(in_order && told.len() == 4)
+        Some(in_order && results.len() == 4)
     }
 }
 
@@ -105,7 +109,7 @@ fn each_thread_runs_once_under_its_number(rt: HostRuntime) -> Result<(), Fail> {
 }
 
 #[test]
-fn no_thread_runs_where_the_service_does_not_begin(rt: HostRuntime) -> Result<(), Fail> {
+fn no_thread_starts_if_the_service_cannot_begin(rt: HostRuntime) -> Result<(), Fail> {
     let service = CallCounter::new(rt, 0);
     assert_equal(&rt, serve_four(rt, &service)?, None);
     assert_equal(&rt, service.calls(), (1, 0, 0));
@@ -118,7 +122,7 @@ struct HowMany;
 
 impl<R: Runtime + Abort> Service<SlowManager, NopErrorSink, NopCustomizer, SetClock, R>
     for HowMany {
-    type Told = ();
+    type Output = ();
 
     type Outcome = usize;
 
@@ -126,16 +130,16 @@ impl<R: Runtime + Abort> Service<SlowManager, NopErrorSink, NopCustomizer, SetCl
 
     ghost begins = { λ _ _ answer. answer ≡ Ok tt };
 
-    ghost ends = { λ _ _ told outcome. outcome ≡ length told };
+    ghost ends = { λ _ _ results outcome. outcome ≡ length results };
 
-    fn begin<L: PoolParts>(&self, _pool: &SlowPool<R, L>) -> Result<(), usize> {
+    fn begin<L: PoolPermits>(&self, _pool: &SlowPool<R, L>) -> Result<(), usize> {
         Ok(())
     }
 
-    fn run<L: PoolParts>(&self, _pool: &SlowPool<R, L>, _thread: usize) {}
+    fn run<L: PoolPermits>(&self, _pool: &SlowPool<R, L>, _thread: usize) {}
 
-    fn end<L: PoolParts>(&self, _pool: &SlowPool<R, L>, told: &[()]) -> usize {
-        told.len()
+    fn end<L: PoolPermits>(&self, _pool: &SlowPool<R, L>, results: &[()]) -> usize {
+        results.len()
     }
 }
 
@@ -152,7 +156,7 @@ fn how_many<R: Runtime + Abort + Threads + Clock>(rt: R, threads: usize) -> Resu
 }
 
 #[test]
-fn as_many_threads_run_as_are_asked_for(rt: HostRuntime) -> Result<(), Fail> {
+fn requested_number_of_threads_runs(rt: HostRuntime) -> Result<(), Fail> {
     assert_equal(&rt, how_many(rt, 0)?, 0);
     assert_equal(&rt, how_many(rt, 5)?, 5);
     Ok(())
@@ -163,7 +167,7 @@ fn as_many_threads_run_as_are_asked_for(rt: HostRuntime) -> Result<(), Fail> {
 struct OwnNumber;
 
 impl Job for OwnNumber {
-    type Told = usize;
+    type Output = usize;
 
     fn run(self, thread: usize) -> usize {
         thread

@@ -1,10 +1,10 @@
 //! Two threads that check out and return connections of one pool.
 ghost use Rattle.std.specs.Prelude.{◌<◌};
-ghost use Rattle.bb8.specs.Parts.{IsBlankOf};
+ghost use Rattle.bb8.specs.Permits.{IsBlankOf};
 ghost use Rattle.bb8.specs.Settings.{default_settings};
 
 use super::assert_equal;
-use bb8::{Gets, Memory, Moment, PoolCalls, PoolParts, Runtime, SetClock};
+use bb8::{Gets, Memory, Moment, PoolCalls, PoolPermits, Runtime, SetClock};
 use bb8_trials::{Board, ServerConnection, ServerPool, builder_on, connection_on, server_on};
 use futures::executor::block_on;
 use futures::test::MockTask;
@@ -42,13 +42,13 @@ fn is_alone(connection: &mut ServerConnection) -> bool {
 /// A thousand gets, each returned before the next. With `owned`, each is a get of another handle,
 /// which is made for it and dropped before the guard.
 #[derive(Drop)]
-struct Repeating<'a, R: Runtime + Abort, L: PoolParts> {
+struct Repeating<'a, R: Runtime + Abort, L: PoolPermits> {
     pool: &'a ServerPool<SetClock, R, L>,
     rt: R,
     owned: bool,
 }
 
-impl<R: Runtime + Abort, L: PoolParts> TestJob for Repeating<'_, R, L> {
+impl<R: Runtime + Abort, L: PoolPermits> TestJob for Repeating<'_, R, L> {
     /// Whether each get was served, and each connection had one holder at a time.
     fn run(&self) -> bool {
         for _ in 0..1000u32 {
@@ -79,14 +79,14 @@ impl<R: Runtime + Abort, L: PoolParts> TestJob for Repeating<'_, R, L> {
 /// state is read, a get is cancelled after a poll, and one is served, whose connection nobody else
 /// may hold.
 #[derive(Drop)]
-struct Mixed<'a, R: Runtime + Abort, L: PoolParts> {
+struct Mixed<'a, R: Runtime + Abort, L: PoolPermits> {
     pool: &'a ServerPool<SetClock, R, L>,
     board: &'a Arc<Board, Global>,
     clock: &'a SetClock,
     rt: R,
 }
 
-impl<R: Runtime + Abort, L: PoolParts> TestJob for Mixed<'_, R, L> {
+impl<R: Runtime + Abort, L: PoolPermits> TestJob for Mixed<'_, R, L> {
     /// Whether each connection had one holder at a time, and the state kept its bounds.
     fn run(&self) -> bool {
         let Ok(task) = MockTask::new(&self.rt) else {
@@ -115,7 +115,7 @@ impl<R: Runtime + Abort, L: PoolParts> TestJob for Mixed<'_, R, L> {
 }
 
 /// Two threads share a pool of up to three connections, and use all its calls.
-fn shares_all<R: Runtime + Abort + Threads, L: PoolParts>(
+fn shares_all<R: Runtime + Abort + Threads, L: PoolPermits>(
     rt: R,
     pool: &ServerPool<SetClock, R, L>,
     board: &Arc<Board, Global>,
@@ -132,7 +132,7 @@ fn shares_all<R: Runtime + Abort + Threads, L: PoolParts>(
 }
 
 /// Two threads share a pool of this size, and only make gets, with or without their own handles.
-fn shares_gets<R: Runtime + Abort + Threads, L: PoolParts>(
+fn shares_gets<R: Runtime + Abort + Threads, L: PoolPermits>(
     rt: R,
     pool: &ServerPool<SetClock, R, L>,
     board: &Arc<Board, Global>,
@@ -152,7 +152,7 @@ fn shares_gets<R: Runtime + Abort + Threads, L: PoolParts>(
     Ok(())
 }
 
-/// What two threads do with their shared pool.
+/// The calls that two threads make on their shared pool.
 #[derive(Clone, Copy)]
 enum SharedBy {
     /// All calls.
@@ -163,7 +163,7 @@ enum SharedBy {
 
 /// Two threads share a pool with the check on or off. At the end all connections are idle, and none
 /// was closed.
-fn shares<R: Runtime + Abort + Threads, L: PoolParts>(
+fn shares<R: Runtime + Abort + Threads, L: PoolPermits>(
     rt: R,
     blank: Blank,
     max_size: u32,

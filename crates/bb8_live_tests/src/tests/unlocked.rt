@@ -1,12 +1,12 @@
 //! Calls that acquire no lock, made while another thread holds the pool's lock.
-ghost use Rattle.bb8.specs.Parts.{IsBlankOf, unchecked_of};
+ghost use Rattle.bb8.specs.Permits.{IsBlankOf, unchecked_of};
 ghost use Rattle.bb8.specs.Settings.{default_settings};
 
 use super::calls::{Desk, Teller, TellerPool, connection, outside_on};
 use super::{SlowManager, assert_equal};
 use bb8::{
     Builder, Building, Driver, DriverCalls, Guards, GuardsCalls, Job, Memory, Moment,
-    NopCustomizer, NopErrorSink, Pool, PoolParts, Runtime, SetClock, start,
+    NopCustomizer, NopErrorSink, Pool, PoolPermits, Runtime, SetClock, start,
 };
 use bb8_trials::{ARMED, LentHandle, OPEN, SECOND, WAITING};
 use futures::test::MockTask;
@@ -20,13 +20,13 @@ use std::thread::Threads;
 
 /// Makes a turn that reaps a connection which was idle for 700 seconds.
 #[derive(Drop)]
-struct Turner<R: Runtime + Abort, L: PoolParts> {
+struct Turner<R: Runtime + Abort, L: PoolPermits> {
     driver: Driver<Teller, Teller, Teller, Teller, R, L>,
 }
 
-impl<R: Runtime + Abort, L: PoolParts> Job for Turner<R, L> {
+impl<R: Runtime + Abort, L: PoolPermits> Job for Turner<R, L> {
     /// How many attempts it polled.
-    type Told = u64;
+    type Output = u64;
 
     fn run(self, _thread: usize) -> u64 {
         let Turner { mut driver } = self;
@@ -35,7 +35,7 @@ impl<R: Runtime + Abort, L: PoolParts> Job for Turner<R, L> {
 }
 
 /// Makes a build that is not polled.
-fn plans<R: Runtime, L: PoolParts>(rt: R, blank: Blank) -> Result<(), Memory>
+fn plans<R: Runtime, L: PoolPermits>(rt: R, blank: Blank) -> Result<(), Memory>
     requires { IsBlankOf blank default_settings L.name L.parts L.settings }
 {
     let clock = SetClock::new(rt.alloc(), Moment(0))?;
@@ -52,7 +52,7 @@ fn plans<R: Runtime, L: PoolParts>(rt: R, blank: Blank) -> Result<(), Memory>
 }
 
 /// Makes all calls that acquire no lock, of a pool of two connections, one of which is in the list.
-fn calls<R: Runtime + Abort, L: PoolParts>(
+fn calls<R: Runtime + Abort, L: PoolPermits>(
     rt: R,
     task: &MockTask,
     pool: &TellerPool<R, L>,
@@ -76,7 +76,7 @@ fn calls<R: Runtime + Abort, L: PoolParts>(
 
 /// A thread reaps, and the drop of what it closes waits under the lock until all calls were made
 /// that acquire no lock.
-fn waits_for_nobody<R: Runtime + Abort + Threads, L: PoolParts + 'static>(
+fn waits_for_nobody<R: Runtime + Abort + Threads, L: PoolPermits + 'static>(
     rt: R,
     blank: Blank,
     desk: &Arc<Desk, Global>,

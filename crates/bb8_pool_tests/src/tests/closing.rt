@@ -2,7 +2,7 @@
 
 use super::assert_equal;
 use bb8::{
-    AddError, Driver, DriverCalls, Gets, MachineClock, NopCustomizer, PoolCalls, PoolParts,
+    AddError, Driver, DriverCalls, Gets, MachineClock, NopCustomizer, PoolCalls, PoolPermits,
     RunError, Runtime, User,
 };
 use bb8_trials::{Board, Errors, Server, ServerPool, builder_on, connection_on, server_on};
@@ -25,7 +25,7 @@ impl<R: Runtime + Abort> User<Server, Errors, NopCustomizer, MachineClock<R>, R>
     /// None if a call returned another result than it should.
     type Outcome = Option<()>;
 
-    fn run<L: PoolParts>(
+    fn run<L: PoolPermits>(
         &self,
         pool: &ServerPool<MachineClock<R>, R, L>,
         driver: &mut Driver<Server, Errors, NopCustomizer, MachineClock<R>, R, L>,
@@ -84,10 +84,10 @@ fn close_drops_each_connection_once(rt: HostRuntime) -> Result<(), Fail> {
         rt,
         board: Arc::try_clone(&board)?,
     };
-    let told = builder_on(&board)?
+    let result = builder_on(&board)?
         .max_size(3)
         .with_pool(server_on(&board)?, MachineClock(rt), rt, &user)?;
-    assert_equal(&rt, told, Some(()));
+    assert_equal(&rt, result, Some(()));
     assert!(&rt; board.is_each_dropped_once());
     Ok(())
 }

@@ -1,11 +1,11 @@
 //! Runs of turns in a thread of their own.
 ghost use Rattle.std.specs.Prelude.{Some};
-ghost use Rattle.bb8.specs.Parts.{IsBlankOf, unchecked_of};
+ghost use Rattle.bb8.specs.Permits.{IsBlankOf, unchecked_of};
 ghost use Rattle.bb8.specs.Settings.{default_settings};
 
 use super::assert_equal;
 use bb8::{
-    Driven, Driver, DriverCalls, Gets, Moment, PoolCalls, PoolParts, Runtime, SetClock, drive,
+    Driven, Driver, DriverCalls, Gets, Moment, PoolCalls, PoolPermits, Runtime, SetClock, drive,
 };
 use bb8_trials::{ARMED, Board, OPEN, OneTurn, ServerPool, WAITING, builder_on, server_on, sizes};
 use futures::task::Poll;
@@ -26,7 +26,7 @@ fn is_send_sync(_rt: HostRuntime) {
 
 /// Runs a driver in a thread of its own, whose gate does not pause: one turn, which opens both
 /// first connections, or ends because the pool was dropped. The pool's own runtime has no threads.
-fn drives<R: Runtime + Abort, L: PoolParts + 'static>(
+fn drives<R: Runtime + Abort, L: PoolPermits + 'static>(
     rt: R,
     threads: &impl Threads,
     blank: Blank,
@@ -83,7 +83,7 @@ fn driven_until_its_pool_ends(rt: HostRuntime) -> Result<(), Fail> {
 /// A driver's thread hangs in the poll of an attempt. Meanwhile `state` returns in the test's own
 /// thread, and another driver opens the connection that a second get requests, which serves the
 /// first get.
-fn answers_meanwhile<R: Runtime + Abort + Threads, L: PoolParts + 'static>(
+fn answers_meanwhile<R: Runtime + Abort + Threads, L: PoolPermits + 'static>(
     rt: R,
     blank: Blank,
 ) -> Result<(), Fail>

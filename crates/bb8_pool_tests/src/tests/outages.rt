@@ -3,7 +3,8 @@
 
 use super::assert_equal;
 use bb8::{
-    Driver, DriverCalls, Gets, Moment, NopCustomizer, PoolCalls, PoolParts, Runtime, SetClock, User,
+    Driver, DriverCalls, Gets, Moment, NopCustomizer, PoolCalls, PoolPermits, Runtime, SetClock,
+    User,
 };
 use bb8_trials::{
     Board, Course, Errors, SECOND, Server, ServerPool, builder_on, connection_on, server_on,
@@ -31,7 +32,7 @@ impl<R: Runtime> User<Server, Errors, NopCustomizer, SetClock, R> for Waits<R> {
     /// How many attempts were begun after each turn, and whether the get is served in the end.
     type Outcome = Option<([u64; 4], bool)>;
 
-    fn run<L: PoolParts>(
+    fn run<L: PoolPermits>(
         &self,
         pool: &ServerPool<SetClock, R, L>,
         driver: &mut Driver<Server, Errors, NopCustomizer, SetClock, R, L>,
@@ -83,7 +84,7 @@ impl<R: Runtime> User<Server, Errors, NopCustomizer, SetClock, R> for Takes<R> {
     /// How many of its checks were begun by then; None if it was not handed out.
     type Outcome = Option<[Option<u64>; 3]>;
 
-    fn run<L: PoolParts>(
+    fn run<L: PoolPermits>(
         &self,
         pool: &ServerPool<SetClock, R, L>,
         _driver: &mut Driver<Server, Errors, NopCustomizer, SetClock, R, L>,

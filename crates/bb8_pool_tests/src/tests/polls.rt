@@ -1,11 +1,11 @@
 //! Many random polls of all that a pool hands out, and turns of its driver, with user callbacks
 //! whose results change at every call.
 ghost use Rattle.std.specs.Prelude.{Some};
-ghost use Rattle.bb8.specs.Parts.{IsBlankOf};
+ghost use Rattle.bb8.specs.Permits.{IsBlankOf};
 ghost use Rattle.bb8.specs.Settings.{default_settings};
 
 use super::assert_equal;
-use bb8::{AddError, Builder, Clock, Driver, DriverCalls, PoolParts, RunError, Runtime};
+use bb8::{AddError, Builder, Clock, Driver, DriverCalls, PoolPermits, RunError, Runtime};
 use bb8_trials::hostile::{
     Counted, GetCounts, Harness, HostileClock, HostileDriver, HostileManager, HostilePool,
     RandomSource,
@@ -112,7 +112,7 @@ impl Tally {
 
 /// A pool, and what a test holds of it.
 #[derive(Drop)]
-struct Field<'h, P: LentHandle<HostileManager> + Drop, R: Runtime, L: PoolParts> {
+struct Field<'h, P: LentHandle<HostileManager> + Drop, R: Runtime, L: PoolPermits> {
     pool: P,
     harness: &'h Harness,
     driver: HostileDriver<R, L>,
@@ -120,7 +120,7 @@ struct Field<'h, P: LentHandle<HostileManager> + Drop, R: Runtime, L: PoolParts>
     gets: Vec<Going<Either<P::Get, P::OwnedGet>>>,
     openings: Vec<P::Dedicated>,
     guards: Vec<Either<P::Guard, P::OwnedGuard>>,
-    told: Tally,
+    result: Tally,
 }
 
 /// Removes and returns one of these, chosen by the source.
@@ -129,7 +129,7 @@ fn take_one<T>(all: &mut Vec<T>, source: &RandomSource) -> Option<T> {
     Some(all.swap_remove(index))
 }
 
-impl<P: LentHandle<HostileManager> + Drop, R: Runtime, L: PoolParts> Field<'_, P, R, L> {
+impl<P: LentHandle<HostileManager> + Drop, R: Runtime, L: PoolPermits> Field<'_, P, R, L> {
     /// Begins a get, unless there are many already.
     fn begin(&mut self) {
         if self.gets.len() >= MOST_GETS {
@@ -148,10 +148,10 @@ impl<P: LentHandle<HostileManager> + Drop, R: Runtime, L: PoolParts> Field<'_, P
         let Some(Going { mut get, polled }) = take_one(&mut self.gets, &self.harness.source) else {
             return;
         };
-        let told = &mut self.told;
-        told.polls = told.polls.saturating_add(1);
+        let result = &mut self.result;
+        result.polls = result.polls.saturating_add(1);
         if !polled {
-            told.gets.begun = told.gets.begun.saturating_add(1);
+            result.gets.begun = result.gets.begun.saturating_add(1);
         }
         match poll_either(self.pool, task, &mut get) {
             Poll::Pending => {
@@ -159,7 +159,7 @@ impl<P: LentHandle<HostileManager> + Drop, R: Runtime, L: PoolParts> Field<'_, P
                 let _ = self.gets.push(Going { get, polled });
             }
             Poll::Ready(answer) => {
-                if let Some(guard) = told.note(self.harness, answer) {
+                if let Some(guard) = result.note(self.harness, answer) {
                     let _ = self.guards.push(guard);
                 }
             }
@@ -173,7 +173,7 @@ impl<P: LentHandle<HostileManager> + Drop, R: Runtime, L: PoolParts> Field<'_, P
             let _ = self.openings.push(self.pool.dedicated_connection());
             return;
         };
-        self.told.polls = self.told.polls.saturating_add(1);
+        self.result.polls = self.result.polls.saturating_add(1);
         match self.pool.poll_dedicated(task, &mut opening) {
             Poll::Pending => {
                 let _ = self.openings.push(opening);
@@ -191,7 +191,7 @@ impl<P: LentHandle<HostileManager> + Drop, R: Runtime, L: PoolParts> Field<'_, P
             return;
         };
         if polled {
-            self.told.gets.cancelled = self.told.gets.cancelled.saturating_add(1);
+            self.result.gets.cancelled = self.result.gets.cancelled.saturating_add(1);
         }
         if cancels {
             cancel_either(self.pool, get);
@@ -215,7 +215,7 @@ impl<P: LentHandle<HostileManager> + Drop, R: Runtime, L: PoolParts> Field<'_, P
     /// Makes a turn of the driver.
     fn turn(&mut self) {
         let turn = self.driver.turn(self.clock.now());
-        self.told.driven = self.told.driven.saturating_add(turn.polled);
+        self.result.driven = self.result.driven.saturating_add(turn.polled);
     }
 
     /// Makes one step, chosen by the source.
@@ -248,7 +248,7 @@ impl<P: LentHandle<HostileManager> + Drop, R: Runtime, L: PoolParts> Field<'_, P
             && state.connections <= MAX_SIZE
             && gauges.holdings.alive() == Some(held)
             && gauges.connections.alive() == Some(connections.saturating_add(prepared))
-            && self.told.gets.agrees(&state)
+            && self.result.gets.agrees(&state)
     }
 }
 
@@ -268,7 +268,7 @@ fn fills<P: LentHandle<HostileManager>>(pool: P, harness: &Harness) -> bool {
 
 /// Fills a pool, and makes its steps. After each one the pool, the test and the connections count
 /// the same. Then everything is dropped.
-fn plays<P: LentHandle<HostileManager> + Drop, R: Runtime + Abort, L: PoolParts>(
+fn plays<P: LentHandle<HostileManager> + Drop, R: Runtime + Abort, L: PoolPermits>(
     rt: &R,
     task: &MockTask,
     pool: P,
@@ -285,21 +285,21 @@ fn plays<P: LentHandle<HostileManager> + Drop, R: Runtime + Abort, L: PoolParts>
         gets: Vec::new(alloc),
         openings: Vec::new(alloc),
         guards: Vec::new(alloc),
-        told: Tally::new(),
+        result: Tally::new(),
     };
     for at in 0..STEPS {
         field.step(task);
         assert!(rt; field.is_in_order(), "step {at}");
     }
-    let mut told = field.told;
-    told.reaped = pool.state().statistics.connections_closed_idle_timeout;
+    let mut result = field.result;
+    result.reaped = pool.state().statistics.connections_closed_idle_timeout;
     drop(field);
     assert!(rt; harness.gauges.are_at_rest(&pool.state()));
-    Ok(told)
+    Ok(result)
 }
 
 /// Makes the steps of a pool with its own driver.
-fn plays_driven<R: Runtime + Abort, L: PoolParts>(
+fn plays_driven<R: Runtime + Abort, L: PoolPermits>(
     rt: &R,
     pool: &HostilePool<R, L>,
     harness: &Harness,
@@ -310,7 +310,7 @@ fn plays_driven<R: Runtime + Abort, L: PoolParts>(
 }
 
 /// Makes the steps of a pool with this seed, and drops it: then nothing is left.
-fn polls_at_random<R: Runtime + Abort, L: PoolParts>(
+fn polls_at_random<R: Runtime + Abort, L: PoolPermits>(
     rt: R,
     blank: Blank,
     seed: u64,
@@ -332,21 +332,21 @@ fn polls_at_random<R: Runtime + Abort, L: PoolParts>(
         .error_sink(harness.sink()?)
         .connection_customizer(harness.customizer()?)
         .build_unchecked(harness.manager()?, harness.clock()?, rt, blank)?;
-    let told = plays_driven(&rt, &pool, &harness)?;
+    let result = plays_driven(&rt, &pool, &harness)?;
     drop(pool);
     assert!(&rt; harness.gauges.are_empty(), "pool {seed}");
-    Ok(told)
+    Ok(result)
 }
 
 #[test]
 fn counts_agree_after_each_of_many_polls(rt: HostRuntime) -> Result<(), Fail> {
     let mut all = Tally::new();
     for seed in 0..POOLS {
-        let told = polls_at_random::<HostRuntime, Brand>(rt, Blank::new(6), seed)?;
-        all.polls = all.polls.saturating_add(told.polls);
-        all.driven = all.driven.saturating_add(told.driven);
-        all.reaped = all.reaped.saturating_add(told.reaped);
-        all.gets.add(&told.gets);
+        let result = polls_at_random::<HostRuntime, Brand>(rt, Blank::new(6), seed)?;
+        all.polls = all.polls.saturating_add(result.polls);
+        all.driven = all.driven.saturating_add(result.driven);
+        all.reaped = all.reaped.saturating_add(result.reaped);
+        all.gets.add(&result.gets);
     }
     assert!(rt; all.polls >= 10_000, "{} polls", all.polls);
     assert!(rt;

@@ -3,7 +3,7 @@
 use super::assert_equal;
 use super::waiting::nanos;
 use bb8::{
-    Clock as PoolClock, Driver, DriverCalls, Gets, Moment, NopCustomizer, PoolCalls, PoolParts,
+    Clock as PoolClock, Driver, DriverCalls, Gets, Moment, NopCustomizer, PoolCalls, PoolPermits,
     Runtime, Service, SetClock, User,
 };
 use bb8_trials::{
@@ -75,7 +75,7 @@ trait AwaitsTurn<R: Runtime + CpuClock> {
 
     /// Gets the connection that must be opened, and cancels that get. If none was idle, it goes to
     /// another get that is cancelled, so gets are signalled more often than drivers.
-    fn opens<L: PoolParts>(&self, pool: &ServerPool<MeteredClock<R>, R, L>) -> Option<()>;
+    fn opens<L: PoolPermits>(&self, pool: &ServerPool<MeteredClock<R>, R, L>) -> Option<()>;
 }
 
 impl<R: Runtime + CpuClock> AwaitsTurn<R> for Resting<R> {
@@ -89,7 +89,7 @@ impl<R: Runtime + CpuClock> AwaitsTurn<R> for Resting<R> {
         }
     }
 
-    fn opens<L: PoolParts>(&self, pool: &ServerPool<MeteredClock<R>, R, L>) -> Option<()> {
+    fn opens<L: PoolPermits>(&self, pool: &ServerPool<MeteredClock<R>, R, L>) -> Option<()> {
         if !self.check_fails {
             let guard = pool.get_blocking().ok()?;
             let mut next = pool.get();
@@ -109,18 +109,18 @@ impl<R: Runtime + CpuClock> AwaitsTurn<R> for Resting<R> {
 impl<R: Runtime + CpuClock> Service<Server, Errors, NopCustomizer, MeteredClock<R>, R>
     for Resting<R> {
     /// None if the get was not served.
-    type Told = Option<Rested>;
+    type Output = Option<Rested>;
 
     type Outcome = Option<Rested>;
 
-    fn begin<L: PoolParts>(
+    fn begin<L: PoolPermits>(
         &self,
         _pool: &ServerPool<MeteredClock<R>, R, L>,
     ) -> Result<(), Option<Rested>> {
         Ok(())
     }
 
-    fn run<L: PoolParts>(
+    fn run<L: PoolPermits>(
         &self,
         pool: &ServerPool<MeteredClock<R>, R, L>,
         _thread: usize,
@@ -139,14 +139,14 @@ impl<R: Runtime + CpuClock> Service<Server, Errors, NopCustomizer, MeteredClock<
         })
     }
 
-    fn end<L: PoolParts>(
+    fn end<L: PoolPermits>(
         &self,
         _pool: &ServerPool<MeteredClock<R>, R, L>,
-        told: &[Option<Rested>],
+        results: &[Option<Rested>],
     ) -> Option<Rested> {
         self.turned();
         self.meter.ended.set(nanos(self.rt.monotonic()));
-        told.first().copied().flatten()
+        results.first().copied().flatten()
     }
 }
 
@@ -228,7 +228,7 @@ impl<R: Runtime> User<Server, Errors, NopCustomizer, SetClock, R> for AsksDue<R>
     /// In milliseconds, before each turn and at the end.
     type Outcome = Option<[Option<u64>; 5]>;
 
-    fn run<L: PoolParts>(
+    fn run<L: PoolPermits>(
         &self,
         pool: &ServerPool<SetClock, R, L>,
         driver: &mut Driver<Server, Errors, NopCustomizer, SetClock, R, L>,

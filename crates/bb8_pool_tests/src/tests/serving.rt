@@ -6,7 +6,7 @@ ghost use Rattle.bb8.specs.Settings.{is_lawful};
 use super::assert_equal;
 use super::waiting::nanos;
 use bb8::{
-    Clock as PoolClock, Job, Moment, NopCustomizer, PoolCalls, PoolParts, RunError, Runtime,
+    Clock as PoolClock, Job, Moment, NopCustomizer, PoolCalls, PoolPermits, RunError, Runtime,
     Service, SetClock, start,
 };
 use bb8_trials::{
@@ -29,18 +29,18 @@ struct BeginCounter {
 }
 
 impl<R: Runtime> Service<Server, Errors, NopCustomizer, SetClock, R> for BeginCounter {
-    type Told = ();
+    type Output = ();
 
     type Outcome = u64;
 
-    fn begin<L: PoolParts>(&self, _pool: &ServerPool<SetClock, R, L>) -> Result<(), u64> {
+    fn begin<L: PoolPermits>(&self, _pool: &ServerPool<SetClock, R, L>) -> Result<(), u64> {
         self.count.count();
         Ok(())
     }
 
-    fn run<L: PoolParts>(&self, _pool: &ServerPool<SetClock, R, L>, _thread: usize) {}
+    fn run<L: PoolPermits>(&self, _pool: &ServerPool<SetClock, R, L>, _thread: usize) {}
 
-    fn end<L: PoolParts>(&self, _pool: &ServerPool<SetClock, R, L>, _told: &[()]) -> u64 {
+    fn end<L: PoolPermits>(&self, _pool: &ServerPool<SetClock, R, L>, _told: &[()]) -> u64 {
         self.count.get()
     }
 }
@@ -94,18 +94,18 @@ struct TwoAtOnce<R> {
 }
 
 impl<R: Runtime> Service<Server, Errors, NopCustomizer, LastingClock<R>, R> for TwoAtOnce<R> {
-    type Told = Option<(u64, u64)>;
+    type Output = Option<(u64, u64)>;
 
     type Outcome = Option<(u64, u64)>;
 
-    fn begin<L: PoolParts>(
+    fn begin<L: PoolPermits>(
         &self,
         _pool: &ServerPool<LastingClock<R>, R, L>,
     ) -> Result<(), Option<(u64, u64)>> {
         Ok(())
     }
 
-    fn run<L: PoolParts>(
+    fn run<L: PoolPermits>(
         &self,
         pool: &ServerPool<LastingClock<R>, R, L>,
         _thread: usize,
@@ -120,13 +120,13 @@ impl<R: Runtime> Service<Server, Errors, NopCustomizer, LastingClock<R>, R> for 
         Some(numbers)
     }
 
-    fn end<L: PoolParts>(
+    fn end<L: PoolPermits>(
         &self,
         _pool: &ServerPool<LastingClock<R>, R, L>,
-        told: &[Option<(u64, u64)>],
+        results: &[Option<(u64, u64)>],
     ) -> Option<(u64, u64)> {
         self.lasts.set(1);
-        *told.first()?
+        *results.first()?
     }
 }
 
@@ -179,7 +179,7 @@ struct Watch<R> {
 }
 
 impl<R: Runtime + Abort> Job for Watch<R> {
-    type Told = ();
+    type Output = ();
 
     fn run(self, _thread: usize) {
         for _ in 0..1000u32 {
@@ -188,7 +188,7 @@ impl<R: Runtime + Abort> Job for Watch<R> {
             }
             thread::sleep(&self.rt, Duration::from_millis(10));
         }
-        panic!(&self.rt; "no answer");
+        panic!(&self.rt; "no result");
     }
 }
 

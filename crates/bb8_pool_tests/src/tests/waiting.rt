@@ -2,7 +2,7 @@
 
 use super::assert_equal;
 use bb8::{
-    Detach, Driver, Gets, MachineClock, NopCustomizer, PoolCalls, PoolParts, RunError, Runtime,
+    Detach, Driver, Gets, MachineClock, NopCustomizer, PoolCalls, PoolPermits, RunError, Runtime,
     Service, User,
 };
 use bb8_trials::{
@@ -39,7 +39,7 @@ enum Cause {
     Close,
 }
 
-/// Who waits, and for what.
+/// The number of waiting threads, and the event that ends their wait.
 #[derive(Clone, Copy)]
 struct Trial {
     /// The number of threads. The first one holds the connection.
@@ -96,10 +96,10 @@ const NOBODY: Waited = Waited {
     last: 0,
 };
 
-/// What the threads do. (A trait because of *trait-for-threads*.)
+/// The work of the threads. (A trait because of *trait-for-threads*.)
 trait Waits<R: Runtime> {
     /// Holds the connection, and then makes the cause occur.
-    fn hold<L: PoolParts>(&self, pool: &ServerPool<MachineClock<R>, R, L>) -> Option<Waited>;
+    fn hold<L: PoolPermits>(&self, pool: &ServerPool<MachineClock<R>, R, L>) -> Option<Waited>;
 
     /// Notes when the cause occurs.
     fn cause(&self);
@@ -108,7 +108,7 @@ trait Waits<R: Runtime> {
     fn sleep(&self, millis: u64);
 
     /// Waits for a connection once the first one is held.
-    fn wait<L: PoolParts>(
+    fn wait<L: PoolPermits>(
         &self,
         pool: &ServerPool<MachineClock<R>, R, L>,
         thread: usize,
@@ -120,7 +120,7 @@ trait Waits<R: Runtime> {
 }
 
 impl<R: Runtime + CpuClock> Waits<R> for Waiting<R> {
-    fn hold<L: PoolParts>(&self, pool: &ServerPool<MachineClock<R>, R, L>) -> Option<Waited> {
+    fn hold<L: PoolPermits>(&self, pool: &ServerPool<MachineClock<R>, R, L>) -> Option<Waited> {
         let guard = pool.get_blocking().ok()?;
         let mut first = pool.get();
         if let Cause::HandOn = self.trial.cause {
@@ -168,7 +168,7 @@ impl<R: Runtime + CpuClock> Waits<R> for Waiting<R> {
         thread::sleep(&self.rt, Duration::from_millis(millis));
     }
 
-    fn wait<L: PoolParts>(
+    fn wait<L: PoolPermits>(
         &self,
         pool: &ServerPool<MachineClock<R>, R, L>,
         thread: usize,
@@ -219,13 +219,13 @@ impl<R: Runtime + CpuClock> Waits<R> for Waiting<R> {
 impl<R: Runtime + CpuClock> Service<Server, Errors, NopCustomizer, MachineClock<R>, R>
     for Waiting<R> {
     /// None if a get was not served.
-    type Told = Option<Waited>;
+    type Output = Option<Waited>;
 
     /// The sum of the used times, and when the first and the last get was served.
     type Outcome = Option<Waited>;
 
     /// From here on no connection is opened.
-    fn begin<L: PoolParts>(
+    fn begin<L: PoolPermits>(
         &self,
         _pool: &ServerPool<MachineClock<R>, R, L>,
     ) -> Result<(), Option<Waited>> {
@@ -233,7 +233,7 @@ impl<R: Runtime + CpuClock> Service<Server, Errors, NopCustomizer, MachineClock<
         Ok(())
     }
 
-    fn run<L: PoolParts>(
+    fn run<L: PoolPermits>(
         &self,
         pool: &ServerPool<MachineClock<R>, R, L>,
         thread: usize,
@@ -244,13 +244,13 @@ impl<R: Runtime + CpuClock> Service<Server, Errors, NopCustomizer, MachineClock<
         self.wait(pool, thread)
     }
 
-    fn end<L: PoolParts>(
+    fn end<L: PoolPermits>(
         &self,
         _pool: &ServerPool<MachineClock<R>, R, L>,
-        told: &[Option<Waited>],
+        results: &[Option<Waited>],
     ) -> Option<Waited> {
         let mut all = NOBODY;
-        for one in told {
+        for one in results {
             let Waited { used, first, last } = (*one)?;
             all.used = all.used.saturating_add(used);
             all.first = all.first.min(first);
@@ -319,7 +319,7 @@ fn waiting_threads_sleep(rt: HostRuntime) -> Result<(), Fail> {
 
 /// A thread that only polled every 50 milliseconds would come 30 milliseconds after a return at 70.
 #[test]
-fn return_wakes_who_waits(rt: HostRuntime) -> Result<(), Fail> {
+fn return_wakes_a_waiter(rt: HostRuntime) -> Result<(), Fail> {
     for owned in [false, true] {
         let least = quickest(rt, Trial { owned, ..ONE })?;
         assert!(&rt; least < 10_000_000, "{least} nanoseconds");
@@ -330,7 +330,7 @@ fn return_wakes_who_waits(rt: HostRuntime) -> Result<(), Fail> {
 /// So do the other events that may serve a get. The cancelled get hands its turn on 20 milliseconds
 /// after the return, which has notified the sleepers, and so 30 before the next poll.
 #[test]
-fn adding_and_a_turn_handed_on_wake_who_waits(rt: HostRuntime) -> Result<(), Fail> {
+fn add_and_a_cancelled_get_wake_a_waiter(rt: HostRuntime) -> Result<(), Fail> {
     for cause in [Cause::Adding, Cause::HandOn] {
         let least = quickest(rt, Trial { cause, ..ONE })?;
         assert!(&rt; least < 15_000_000, "{least} nanoseconds");
@@ -340,7 +340,7 @@ fn adding_and_a_turn_handed_on_wake_who_waits(rt: HostRuntime) -> Result<(), Fai
 
 /// A detached connection wakes the waiter, which then requests another one, opened by the driver.
 #[test]
-fn detached_connection_wakes_who_waits(rt: HostRuntime) -> Result<(), Fail> {
+fn detach_wakes_a_waiter(rt: HostRuntime) -> Result<(), Fail> {
     let cause = Cause::Detach;
     let least = quickest(rt, Trial { cause, ..ONE })?;
     assert!(&rt; least < 15_000_000, "{least} nanoseconds");
@@ -349,7 +349,7 @@ fn detached_connection_wakes_who_waits(rt: HostRuntime) -> Result<(), Fail> {
 
 /// A thread that waits in a closed pool times out at once, and not after its pool's 30 seconds.
 #[test]
-fn close_wakes_who_waits(rt: HostRuntime) -> Result<(), Fail> {
+fn close_wakes_waiters(rt: HostRuntime) -> Result<(), Fail> {
     let cause = Cause::Close;
     let least = quickest(rt, Trial { cause, ..ONE })?;
     assert!(&rt; least < 15_000_000, "{least} nanoseconds");
@@ -361,7 +361,7 @@ fn close_wakes_who_waits(rt: HostRuntime) -> Result<(), Fail> {
 /// is the first one's turn. If only the other one were woken, it would come at its next poll, at
 /// 100.
 #[test]
-fn return_wakes_the_one_whose_turn_it_is(rt: HostRuntime) -> Result<(), Fail> {
+fn return_wakes_the_oldest_waiter(rt: HostRuntime) -> Result<(), Fail> {
     let trial = Trial {
         threads: 3,
         hold: 62,
@@ -384,7 +384,7 @@ impl<R: Runtime> User<Server, Errors, NopCustomizer, MachineClock<R>, R> for InV
     /// How many milliseconds each wait took at least, and the number of the first connection.
     type Outcome = Option<(u64, u64, u64)>;
 
-    fn run<L: PoolParts>(
+    fn run<L: PoolPermits>(
         &self,
         pool: &ServerPool<MachineClock<R>, R, L>,
         _driver: &mut Driver<Server, Errors, NopCustomizer, MachineClock<R>, R, L>,
@@ -421,11 +421,11 @@ fn wait_ends_at_its_deadline(rt: HostRuntime) -> Result<(), Fail> {
             rt,
             board: Arc::try_clone(&board)?,
         };
-        let told = builder_on(&board)?
+        let result = builder_on(&board)?
             .max_size(1)
             .connection_timeout(Duration::from_millis(30))
             .with_pool(server_on(&board)?, MachineClock(rt), rt, &user)?;
-        let Some((number, first, second)) = told else {
+        let Some((number, first, second)) = result else {
             return Err(Fail::new("a get did not time out"));
         };
         assert_equal(&rt, number, 7);

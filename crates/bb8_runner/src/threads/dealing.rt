@@ -24,7 +24,7 @@ pub struct Dealt {
     pub notes: Vec<Notes>,
 }
 
-/// Makes the events of one seat, in order. If there is no room for one, it sets `refused` and
+/// Makes the events of one seat, in order. If memory for one is refused, it sets `refused` and
 /// stops; it also stops if another thread has set it.
 fn make_own<R: Wait, L: Recorded>(
     rt: &R,

@@ -1,10 +1,13 @@
 //! A script run from bytes to bytes, in threads.
-ghost use Rattle.std.specs.Prelude.{◌≡◌, ◌<◌, true, List, ℕ, IfOk, IfSome, IfErr, IsErrOf, string_bytes};
-ghost use Rattle.bb8_runner.specs.Words.{Appends, settings_of, is_lawful, Verdict};
+ghost use Rattle.std.specs.Prelude.{◌≡◌, ◌≢◌, ◌⊎◌, ◌<◌, true, List, ℕ, Ok, IfOk, IfSome, IfErr, IsErrOf, string_bytes};
+ghost use Rattle.bb8_runner.specs.Words.{Appends, settings_of, is_lawful, Verdict, Bad};
+ghost use Rattle.bb8_runner.specs.Errors.{IsErrorText};
 ghost use Rattle.bb8_runner.specs.Threads.{IsThreadsAnswer, IsDealtText};
 
+use crate::errors::error_at;
 use crate::fault::Fault;
 use crate::lines::{NoScript, Script, lines_of, script_of};
+use crate::script::explain;
 use crate::streams::{Sink, Source};
 use crate::text::bad_line;
 use crate::threads::dealing::deal;
@@ -19,7 +22,7 @@ use std::sync::ledger::Blank;
 use std::thread::Threads;
 
 /// Returns the output of a script that is dealt to threads.
-fn told_of<H: Threads + Wait + Sync>(
+fn report_of<H: Threads + Wait + Sync>(
     rt: &H,
     alloc: Global,
     threads: u8,
@@ -27,7 +30,7 @@ fn told_of<H: Threads + Wait + Sync>(
 ) -> Result<String, Fault>
     requires lawful { is_lawful (settings_of script.now.config) ≡ true }
     requires some { 0 < threads }
-    ensures told { IfOk result (λ text.
+    ensures reported { IfOk result (λ text.
         IsDealtText (settings_of script.now.config) (string_bytes text)) }
     ensures fault { IfErr result (λ e. e ≡ Fault.Memory) }
 {
@@ -40,42 +43,51 @@ fn told_of<H: Threads + Wait + Sync>(
     Ok(dealt_text(alloc, dealt.entries.len(), audited, last)?)
 }
 
-/// Returns the output for an input.
+/// Returns the output for an input, and the message about its first bad line.
 fn answer<H: Threads + Wait + Sync>(
     rt: &H,
     alloc: Global,
     threads: u8,
     input: &[u8],
-) -> Result<(Verdict, String), Fault>
+) -> Result<(Verdict, String, String), Fault>
     requires some { 0 < threads }
-    ensures told { IfOk result (λ x. IsThreadsAnswer input.now x.0 (string_bytes x.1)) }
+    ensures reported { IfOk result (λ x. IsThreadsAnswer input.now x.0 (string_bytes x.1)) }
+    ensures error { IfOk result (λ x. x.0 ≡ Bad → IsErrorText input.now (string_bytes x.2)) }
     ensures fault { IfErr result (λ e. e ≡ Fault.Memory) }
 {
     let lines = lines_of(alloc, input)?;
     match script_of(alloc, lines.as_slice()) {
-        Ok(script) => Ok((Verdict::Ran, told_of(rt, alloc, threads, &script)?)),
-        Err(NoScript::BadLine(number)) => Ok((Verdict::Bad, bad_line(alloc, number)?)),
+        Ok(script) => {
+            let text = report_of(rt, alloc, threads, &script)?;
+            Ok((Verdict::Ran, text, String::new(alloc)))
+        }
+        Err(NoScript::BadLine(number)) => {
+            let error = error_at(alloc, lines.as_slice(), number)?;
+            Ok((Verdict::Bad, bad_line(alloc, number)?, error))
+        }
         Err(NoScript::Memory) => Err(Fault::Memory),
     }
 }
 
 /// Reads a script to its end and deals its events to threads over one journal: event i, from 0,
 /// goes to thread i mod `threads`. Writes the count of the history's entries, whether the threads'
-/// notes account for it, and the final state; or the number of the first bad line.
+/// notes account for it, and the final state; or the number of the first bad line, and to `errors`
+/// a message about it. A failed write to `errors` is ignored.
 ///
 /// Fails with `Read` if a read fails, `Write` if a write fails, `Memory` if memory is refused, for
 /// an entry too. Nothing is written before the whole input has been read and parsed, so only after
 /// `Write` the beginning of the output may have been written.
-pub fn run_threads<H: Threads + Wait + Sync, R: Source, W: Sink>(
+pub fn run_threads<H: Threads + Wait + Sync, R: Source, W: Sink, E: Sink>(
     rt: &H,
     alloc: Global,
     threads: u8,
     reader: &mut R,
     writer: &mut W,
+    errors: &mut E,
 ) -> Result<Verdict, Fault>
     requires some { 0 < threads }
     // The output is the answer to the input.
-    ensures told { IfOk result (λ verdict. IfSome (R.remaining reader.old) (λ input.
+    ensures reported { IfOk result (λ verdict. IfSome (R.remaining reader.old) (λ input.
         (text : List ℕ) × IsThreadsAnswer input verdict text
         × Appends (W.contents writer.old) (W.contents writer.new) text)) }
     // `Read` is returned only if a read failed.
@@ -89,9 +101,17 @@ pub fn run_threads<H: Threads + Wait + Sync, R: Source, W: Sink>(
         (verdict : Verdict) × IsThreadsAnswer input verdict text)) }
     // If memory was refused, nothing was written.
     ensures unanswered { IsErrOf result Fault.Memory → writer.new ≡ writer.old }
+    // The message about the first bad line was written to `errors`, or this write failed.
+    ensures explained { result ≡ Ok Bad → IfSome (R.remaining reader.old) (λ input.
+        (text : List ℕ) × IsErrorText input text
+        × (Appends (E.contents errors.old) (E.contents errors.new) text
+        ⊎ E.write_fails errors.old text errors.new)) }
+    // If no line is bad, nothing was written to `errors`.
+    ensures silent { result ≢ Ok Bad → errors.new ≡ errors.old }
 {
     let input = reader.read_whole(alloc)?;
-    let (verdict, text) = answer(rt, alloc, threads, input.as_slice())?;
+    let (verdict, text, error) = answer(rt, alloc, threads, input.as_slice())?;
     writer.write_whole(text.as_bytes())?;
+    explain(verdict, error.as_bytes(), errors);
     Ok(verdict)
 }

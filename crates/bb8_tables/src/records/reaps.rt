@@ -11,16 +11,16 @@ ghost use Rattle.bb8_types.specs.Bounds.{end_of_numbers};
 ghost use Rattle.bb8_tables.specs.Dues.{Ends, EndsFirst, EndsIdle, Passes};
 ghost use Rattle.bb8_types.specs.declared.standing.Standing.{Standing};
 ghost use Rattle.bb8_tables.specs.TableView.{slot_at};
-ghost use Rattle.bb8_tables.specs.Lent.{AddsLent};
+ghost use Rattle.bb8_tables.specs.AccessCount.{AddsReads};
 ghost use Rattle.bb8_tables.specs.Reaps as reaps;
 ghost use Rattle.bb8_tables.specs.Closed.{offered_all, closed_of};
 ghost use Rattle.bb8_tables.specs.declared.table.Slot.{Slot};
 
-use super::{Records, close_idle_at};
+use super::{Records, close_idle_at, is_idle};
 use crate::closed::ClosedList;
-use crate::table::{Lendings, Table};
+use crate::table::{AccessCounter, Table};
 use bb8_types::api::Config;
-use bb8_types::standing::{Place, Standing};
+use bb8_types::standing::Standing;
 use std::time::Duration;
 
 /// The result of a reap.
@@ -59,15 +59,6 @@ fn is_past(limit: Option<Duration>, span: u64) -> bool
     }
 }
 
-fn is_idle<C>(place: &Place<C>) -> bool
-    ensures { result ≡ places.is_idle place.now }
-{
-    match place {
-        Place::Idle(_) => true,
-        Place::Unclaimed | Place::Claimed | Place::Held(_) | Place::Guarded => false,
-    }
-}
-
 /// Returns whether a record is idle, and for too long.
 fn idles_out<C>(config: &Config, now: u64, standing: &Standing<C>) -> bool
     ensures { result ≡ places.idles_out (settings_of config.now) now (Some standing.now) }
@@ -88,14 +79,14 @@ fn pass_birth<C: Drop>(
     place: usize,
     config: &Config,
     now: u64,
-    lendings: &mut Lendings,
+    accesses: &mut AccessCounter,
 ) -> Age
     requires member { (j : ℕ) × (slice_get slots.now.births j ≡ Some place) }
     requires stands { (x : Slot (Standing C)) × (slot_at slots.now place ≡ Some x) }
     ensures value { Passes (settings_of config.now) now slots.now place result }
-    ensures examined { AddsLent 1 0 lendings.old lendings.new }
+    ensures examined { AddsReads 1 0 accesses.old accesses.new }
 {
-    let (slot, next) = slots.pass(place, lendings);
+    let (slot, next) = slots.pass(place, accesses);
     let standing = &slot.standing;
     if !is_past(config.max_lifetime, now.saturating_sub(standing.birth)) {
         return Age::Young;
@@ -115,7 +106,7 @@ impl<C: Drop> Records<C> {
         config: &Config,
         now: u64,
         closed: &mut ClosedList<C>,
-        lendings: &mut Lendings,
+        accesses: &mut AccessCounter,
     ) -> bool
         ensures ends { MatchBool result
             ((k : ℕ) × (slice_get self.old.idle 0 ≡ Some k)
@@ -124,12 +115,12 @@ impl<C: Drop> Records<C> {
             (((k : ℕ)
             → places.idles_out (settings_of config.now) now (map.get self.old.places k) ≡ false)
             × (self.new ≡ self.old) × (closed.new ≡ closed.old)) }
-        ensures examined { AddsLent 1 0 lendings.old lendings.new }
+        ensures examined { AddsReads 1 0 accesses.old accesses.new }
     {
         let Some(place) = self.slots.first() else {
             return false;
         };
-        let due = idles_out(config, now, &self.slots.at(place, lendings).standing);
+        let due = idles_out(config, now, &self.slots.at(place, accesses).standing);
         if !due {
             return false;
         }
@@ -146,11 +137,11 @@ impl<C: Drop> Records<C> {
         config: &Config,
         now: u64,
         closed: &mut ClosedList<C>,
-        lendings: &mut Lendings,
+        accesses: &mut AccessCounter,
     ) -> u32
         ensures ends { (ks : List ℕ) × EndsIdle (settings_of config.now) now
             self.old ks self.new result closed.old closed.new }
-        ensures examined { AddsLent (result + 1) 0 lendings.old lendings.new }
+        ensures examined { AddsReads (result + 1) 0 accesses.old accesses.new }
     {
         if config.idle_timeout.is_none() {
             return 0;
@@ -160,7 +151,7 @@ impl<C: Drop> Records<C> {
             .idle_connections()
             .saturating_sub(config.min_idle.unwrap_or(0));
         for ended in 0..many {
-            let more = self.reap_first(config, now, closed, lendings);
+            let more = self.reap_first(config, now, closed, accesses);
             if !more {
                 return ended;
             }
@@ -176,14 +167,14 @@ impl<C: Drop> Records<C> {
         config: &Config,
         now: u64,
         closed: &mut ClosedList<C>,
-        lendings: &mut Lendings,
+        accesses: &mut AccessCounter,
     ) -> u32
         ensures ends { (ks : List ℕ) × Ends (places.lives_out (settings_of config.now) now)
             self.old ks self.new result closed.old closed.new }
         ensures none_left { (k : ℕ)
             → places.lives_out (settings_of config.now) now (map.get self.new.places k) ≡ false }
-        ensures examined { AddsLent (result + (self.old.conns - length self.old.idle) + 1) 0
-            lendings.old lendings.new }
+        ensures examined { AddsReads (result + (self.old.conns - length self.old.idle) + 1) 0
+            accesses.old accesses.new }
     {
         let mut many = 0;
         if config.max_lifetime.is_none() {
@@ -192,7 +183,7 @@ impl<C: Drop> Records<C> {
         let mut at = self.slots.first_birth();
         for _ in 0..self.slots.births() {
             let Some(place) = at else { break };
-            match pass_birth(&self.slots, place, config, now, lendings) {
+            match pass_birth(&self.slots, place, config, now, accesses) {
                 Age::Young => break,
                 Age::Out(next) => at = next,
                 Age::Aged(next) => {
@@ -214,18 +205,18 @@ impl<C: Drop> Records<C> {
         config: &Config,
         now: u64,
         closed: &mut ClosedList<C>,
-        lendings: &mut Lendings,
+        accesses: &mut AccessCounter,
     ) -> Reaped
         ensures ends { (js : List ℕ) × (ks : List ℕ)
             × reaps.Reaps (settings_of config.now) now self.old js ks self.new result
             × (closed.new ≡ offered_all (closed_of (js ++ ks) self.old.places) closed.old) }
         ensures numbers { self.old.next ≤ end_of_numbers }
-        ensures examined { AddsLent (result.closed + (self.old.conns - length self.old.idle) + 2) 0
-            lendings.old lendings.new }
+        ensures examined { AddsReads (result.closed + (self.old.conns - length self.old.idle) + 2) 0
+            accesses.old accesses.new }
     {
         let _next = &self.next;
-        let by_life = self.reap_aged(config, now, closed, lendings);
-        let by_idle = self.reap_idle(config, now, closed, lendings);
+        let by_life = self.reap_aged(config, now, closed, accesses);
+        let by_idle = self.reap_idle(config, now, closed, accesses);
         Reaped {
             closed: by_life + by_idle,
             by_idle,

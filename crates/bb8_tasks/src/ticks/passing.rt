@@ -1,4 +1,4 @@
-//! Which tick is due next.
+//! Ticks, and the moment at which the next one is due.
 ghost use Rattle.std.specs.Prelude.{◌≡◌, ◌<◌};
 ghost use Rattle.std.specs.Duration.{as_nanos};
 ghost use Rattle.bb8_tasks.specs.Ticks.{AreFrom, IsNextTick, is_due, Passes};
@@ -7,7 +7,7 @@ use super::Ticks;
 use bb8_core::api::Moment;
 use std::time::Duration;
 
-/// The first tick after a moment. None where that is past the greatest moment.
+/// Returns the first tick after a moment. None if that is past the greatest moment.
 fn next_tick(start: Moment, rate: Duration, moment: Moment) -> Option<Moment>
     requires { 0 < as_nanos rate }
     ensures { IsNextTick start (as_nanos rate) moment result }
@@ -26,7 +26,7 @@ fn next_tick(start: Moment, rate: Duration, moment: Moment) -> Option<Moment>
 }
 
 impl Ticks {
-    /// Ticks that count from the moment `start` on, so far apart, of which none has passed.
+    /// Returns ticks `rate` apart that count from the moment `start` on. None has passed yet.
     pub fn new(start: Moment, rate: Duration) -> Self
         requires { 0 < as_nanos rate }
         ensures { AreFrom start (as_nanos rate) result }
@@ -38,7 +38,8 @@ impl Ticks {
         }
     }
 
-    /// The tick that is due next: None, and so never, where each is past the greatest moment.
+    /// Returns the tick that is due next. None, which means never, if each is past the greatest
+    /// moment.
     pub fn next_due(&self) -> Option<Moment>
         ensures { result ≡ self.now.due }
     {

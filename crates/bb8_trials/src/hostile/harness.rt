@@ -93,7 +93,7 @@ pub struct Harness {
     pub source: RandomSource,
     /// The gauges of the callbacks.
     pub gauges: Gauges,
-    /// One of so many connections is found broken; none if it is 0.
+    /// One of this many connections is found broken; none if it is 0.
     pub one_in: u64,
     /// The greatest step of the clock, forwards and backwards, in nanoseconds.
     pub stride: u64,

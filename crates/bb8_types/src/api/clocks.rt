@@ -14,14 +14,14 @@ use std::sync::atomic::{AtomicU64, Ordering};
 pub trait Clock: Send + Sync + Drop + 'static {
     // Relates a clock to each moment that it may return. The implementer chooses it; by default any
     // moment.
-    ghost tells: { Self → MomentOf → Type 0 } = { λ _ _. ⊤ };
+    ghost reports: { Self → MomentOf → Type 0 } = { λ _ _. ⊤ };
 
     /// Returns the current moment, in nanoseconds from a zero that the clock chooses.
     fn now(&self) -> Moment
-        ensures { tells self.now result };
+        ensures { reports self.now result };
 }
 
-/// A clock that stands still until it is set, for tests and for programs with a time of their own.
+/// A clock that moves only when it is set, for tests and for programs with a time of their own.
 /// Copies made by `try_clone` share the moment, also between threads: each returns what was set
 /// last on any of them.
 #[derive(Drop)]
@@ -30,7 +30,7 @@ pub struct SetClock {
 }
 
 impl SetClock {
-    /// Returns a clock that stands at this moment until it is set. Fails if memory is refused.
+    /// Returns a clock that shows this moment until it is set. Fails if memory is refused.
     pub fn new(alloc: Global, moment: Moment) -> Result<SetClock, Memory> {
         let nanoseconds = Arc::new(alloc, AtomicU64::new(moment.0))?;
         Ok(SetClock { nanoseconds })

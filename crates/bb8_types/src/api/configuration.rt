@@ -5,7 +5,7 @@ ghost use Rattle.bb8_types.specs.Settings.{settings_of, default_settings, is_law
 
 use std::time::Duration;
 
-/// Which idle connection is checked out first. As in bb8.
+/// The order in which idle connections are checked out. As in bb8.
 #[derive(Clone, Copy, Debug, PartialEq, Eq)]
 pub enum QueueStrategy {
     /// The one that has been idle longest.
@@ -51,7 +51,7 @@ pub struct Config {
     pub retry_connection: bool,
     /// The time between two runs of the reaper. 30 seconds by default.
     pub reaper_rate: Duration,
-    /// Which idle connection is checked out first. `Fifo` by default.
+    /// The order in which idle connections are checked out. `Fifo` by default.
     pub queue_strategy: QueueStrategy,
 }
 

@@ -31,7 +31,7 @@ impl Dice {
     }
 }
 
-/// Chooses a limit of so many nanoseconds, or none.
+/// Chooses a limit of this many nanoseconds, or none.
 fn limit(dice: &mut Dice, unit: u64) -> Option<u64> {
     let units = dice.pick(&[1, 20, 20, 50, 50, 90, 200, u64::MAX])?;
     (!dice.one_in(3)).then_some(unit.saturating_mul(units))
@@ -96,6 +96,8 @@ pub struct Names {
     holding: Vec<u64>,
     /// Checked-out connections.
     out: Vec<u64>,
+    /// Idle connections, and closed ones that were idle.
+    idle: Vec<u64>,
     /// Claimed approvals.
     claimed: Vec<u64>,
 }
@@ -118,6 +120,15 @@ impl Names {
                 Answer::Closed(..) if matches!(act, Act::CheckedErr(..)) => self.gets.push(get),
                 _ => {}
             }
+        }
+        match answer {
+            Answer::Kept(number, _) | Answer::Entered(number, _) | Answer::Added(number, _) => {
+                self.idle.push(number)
+            }
+            Answer::Served(number, _) | Answer::Taken(number, _) | Answer::Closed(number, ..) => {
+                self.idle.retain(|it| *it != number)
+            }
+            _ => {}
         }
         match (act, answer) {
             (_, Answer::Begun(get)) => self.gets.push(get),
@@ -145,7 +156,7 @@ impl Names {
             let is_strange = dice.one_in(25);
             dice.pick(if is_strange { &strange } else { names })
         };
-        Some(match dice.below(110) {
+        Some(match dice.below(112) {
             0..=15 => Act::Begin,
             16..=35 => Act::Try(one_of(dice, &self.gets)?),
             36..=43 => Act::CheckedOk(one_of(dice, &self.holding)?),
@@ -175,6 +186,7 @@ impl Names {
             99..=102 => Act::Detach(one_of(dice, &self.out)?),
             103..=105 => Act::Ask,
             106..=107 => Act::Retire,
+            108..=109 => Act::Evict(one_of(dice, &self.idle)?),
             _ => match dice.below(7) {
                 0 => Act::Leave,
                 1 => Act::Close,

@@ -32,6 +32,7 @@ fn spelled(act: Act) -> String {
         }
         Act::PutBack(number, is_broken) => format!("return {number}{}", broken(is_broken)),
         Act::Detach(number) => format!("detach {number}"),
+        Act::Evict(number) => format!("evict {number}"),
         Act::Fill(claimed) => format!("fill{}", if claimed { " claimed" } else { "" }),
         Act::Ask => "ask".to_owned(),
         Act::Claim => "claim".to_owned(),
@@ -46,6 +47,23 @@ fn spelled(act: Act) -> String {
         Act::Close => "close".to_owned(),
         Act::Look => "look".to_owned(),
     }
+}
+
+/// Drops, doubles or lengthens a field of the first or another line, which mostly makes it invalid.
+fn spoil(dice: &mut Dice, lines: &mut [String]) {
+    let limit = dice.pick(&[1, lines.len()]).unwrap_or(1);
+    let line = dice.below(limit as u64) as usize;
+    let mut fields: Vec<_> = lines[line].split(' ').map(str::to_owned).collect();
+    let field = dice.below(fields.len() as u64) as usize;
+    match dice.below(3) {
+        0 => drop(fields.remove(field)),
+        1 => fields.insert(field, fields[field].clone()),
+        _ => fields[field].push_str(
+            dice.pick(&["0", "x", "=", "00000000000000000000"])
+                .unwrap_or("x"),
+        ),
+    }
+    lines[line] = fields.join(" ");
 }
 
 /// Returns a script.
@@ -75,6 +93,9 @@ fn script(dice: &mut Dice) -> Vec<u8> {
             lines.push(format!("{at} {}", spelled(act)));
             last = act;
         }
+    }
+    if dice.one_in(10) {
+        spoil(dice, &mut lines);
     }
     let mut text = lines.join("\n").into_bytes();
     text.extend(if dice.one_in(10) { None } else { Some(b'\n') });

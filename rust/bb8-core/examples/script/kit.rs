@@ -1,4 +1,4 @@
-//! The kit of `bb8_core`, and what the runner uses of Rattle's standard library besides.
+//! `bb8_core::kit`, and what else the runner uses of Rattle's standard library.
 
 pub use bb8_core::kit::*;
 use std::fmt::{self, Write};

@@ -2,12 +2,12 @@
 //! < FILE`.
 //!
 //! It reads standard input and writes the results of the events and the final state to standard
-//! output. It exits with status 0 if the script ran, 2 after an invalid line or argument, and 3 if
-//! reading, writing or an allocation failed. `docs/SCRIPTS.md` in the repository describes the
-//! language.
+//! output, and a message about an invalid line to standard error. It exits with status 0 if the
+//! script ran, 2 after an invalid line or argument, and 3 if reading, writing or an allocation
+//! failed. `docs/SCRIPTS.md` in the repository describes the language.
 //!
-//! With the feature `refusals` and numbers in the variables `GRANTED` and `REFUSED`, so many requests
-//! for memory are granted, and so many after these are refused.
+//! With the feature `refusals`, the variables `GRANTED` and `REFUSED` hold numbers: that many
+//! requests for memory are granted, and that many after these are refused.
 #![forbid(unsafe_code)]
 
 #[macro_use]
@@ -23,7 +23,14 @@ use std::{env, io};
 
 /// Runs the script on standard input.
 fn run() -> Result<Verdict, Fault> {
-    let run = || run_script(kit::Global, &mut io::stdin(), &mut io::stdout());
+    let run = || {
+        run_script(
+            kit::Global,
+            &mut io::stdin(),
+            &mut io::stdout(),
+            &mut io::stderr(),
+        )
+    };
     #[cfg(feature = "refusals")]
     {
         let number = |name| env::var(name).ok()?.parse().ok();

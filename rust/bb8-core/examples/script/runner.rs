@@ -1,6 +1,9 @@
 //! The modules of `crates/bb8_runner` that read and run a script. All but `streams` are generated
 //! by `rust/erase`.
 
+#[path = "bb8_runner/errors.rs"]
+#[rustfmt::skip]
+mod errors;
 #[path = "bb8_runner/fault.rs"]
 #[rustfmt::skip]
 pub mod fault;
@@ -22,7 +25,7 @@ pub mod script;
 #[rustfmt::skip]
 mod settings;
 mod streams;
-// (the kit's text needs no trait for `writeln!`)
+// (Rattle's `writeln!` needs no trait)
 #[allow(unused_imports)]
 #[path = "bb8_runner/text.rs"]
 #[rustfmt::skip]

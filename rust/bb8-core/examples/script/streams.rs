@@ -1,5 +1,5 @@
-//! Where a script is read from, and where its results are written to. Written by hand, because
-//! Rust's `Read` and `Write` differ from Rattle's.
+//! The streams from which a script is read, and to which its results are written. Written by hand,
+//! because Rust's `Read` and `Write` differ from Rattle's.
 
 use super::fault::Fault;
 use crate::kit::{Global, Vec};

@@ -141,6 +141,12 @@ impl DetachAnswer {
     }
 }
 
+/// The result of `evict`.
+pub enum EvictAnswer<C> {
+    /// The connection, which no longer belongs to the pool; the grant; the notified get.
+    Evicted(C, Grant, Option<GetKey>),
+}
+
 /// The result of `put_back`.
 pub enum PutBackAnswer<C> {
     /// The connection is idle; the notified get.

@@ -15,20 +15,17 @@ use crate::bb8_core::internals::{
 /// The result of a step with hand-off.
 pub struct HandedOver<R, C> {
     /// The result of the step.
-    pub told: R,
+    pub outcome: R,
     /// The result of the notified get's try, if a get was notified.
     pub tried: Option<TryAnswer<C>>,
 }
 
-/// Makes the try of the notified get, if there is one. It is not inlined, because the steps around
-/// it are.
-#[inline(never)]
+/// Makes the try of the notified get, if there is one.
 fn try_of<C, A>(
     pool: &mut PoolInternals<C, A>,
     at: Moment,
     notified: Option<GetKey>,
 ) -> Option<TryAnswer<C>> {
-    pool.limits();
     match notified {
         None => None,
         Some(get) => match pool.try_get(at, get) {
@@ -44,13 +41,13 @@ macro_rules! hand_over {
     ($pool:ident, $at:ident, $step:expr) => {
         match $step {
             Err(back) => HandedOver {
-                told: Err(back),
+                outcome: Err(back),
                 tried: None,
             },
-            Ok(told) => {
-                let tried = try_of($pool, $at, told.notified());
+            Ok(outcome) => {
+                let tried = try_of($pool, $at, outcome.notified());
                 HandedOver {
-                    told: Ok(told),
+                    outcome: Ok(outcome),
                     tried,
                 }
             }
@@ -59,7 +56,6 @@ macro_rules! hand_over {
 }
 
 /// Reports that the check of a get failed, with hand-off.
-#[inline(always)]
 pub fn checked_err<C, A>(
     pool: &mut PoolInternals<C, A>,
     at: Moment,
@@ -72,7 +68,6 @@ pub fn checked_err<C, A>(
 }
 
 /// Ends a get that holds nothing and is not served, with hand-off.
-#[inline(always)]
 pub fn give_up<C, A>(
     pool: &mut PoolInternals<C, A>,
     at: Moment,
@@ -84,7 +79,6 @@ pub fn give_up<C, A>(
 }
 
 /// Ends a get that holds this connection and is not served, with hand-off.
-#[inline(always)]
 pub fn give_back<C, A>(
     pool: &mut PoolInternals<C, A>,
     at: Moment,
@@ -102,7 +96,6 @@ pub fn give_back<C, A>(
 }
 
 /// Takes back a connection that a guard holds, with hand-off.
-#[inline(always)]
 pub fn put_back<C, A>(
     pool: &mut PoolInternals<C, A>,
     at: Moment,
@@ -114,7 +107,6 @@ pub fn put_back<C, A>(
 }
 
 /// Detaches a connection that a guard holds, with hand-off.
-#[inline(always)]
 pub fn detach<C, A>(
     pool: &mut PoolInternals<C, A>,
     at: Moment,
@@ -124,7 +116,6 @@ pub fn detach<C, A>(
 }
 
 /// Reports that the attempt of a claimed approval succeeded, with hand-off.
-#[inline(always)]
 pub fn opened<C, A>(
     pool: &mut PoolInternals<C, A>,
     at: Moment,
@@ -135,7 +126,6 @@ pub fn opened<C, A>(
 }
 
 /// Adds a connection, with hand-off.
-#[inline(always)]
 pub fn add<C, A>(
     pool: &mut PoolInternals<C, A>,
     at: Moment,

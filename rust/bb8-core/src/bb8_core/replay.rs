@@ -6,8 +6,8 @@ mod hints;
 use self::hints::Hints;
 use crate::bb8_core::answers::{
     AddAnswer, BeginAnswer, CheckedErrAnswer, CheckedOkAnswer, ClaimAnswer, DetachAnswer,
-    FailedAnswer, GiveUpAnswer, JoinAnswer, LeaveAnswer, OpenedAnswer, PutBackAnswer, ReapAnswer,
-    TryAnswer, Unfit,
+    EvictAnswer, FailedAnswer, GiveUpAnswer, JoinAnswer, LeaveAnswer, OpenedAnswer, PutBackAnswer,
+    ReapAnswer, TryAnswer, Unfit,
 };
 use crate::bb8_core::internals::PoolInternals;
 use crate::bb8_tables::keys::{GetKey, Key};
@@ -49,7 +49,9 @@ impl Known {
             Act::Try(get) | Act::CheckedOk(get) => self.gets.place(get),
             Act::CheckedErr(get, _) | Act::GiveUp(get, _, _) => self.gets.place(get),
             Act::PutBack(number, _) | Act::Detach(number) => self.records.place(number),
-            Act::Opened(number) | Act::Failed(number) => self.records.place(number),
+            Act::Evict(number) | Act::Opened(number) | Act::Failed(number) => self
+                .records
+                .place(number),
             Act::Begin | Act::Fill(_) | Act::Ask | Act::Claim | Act::Add(_) => 0,
             Act::Reap
             | Act::Retire
@@ -87,6 +89,7 @@ fn fits_act<C>(pool: &PoolInternals<C>, act: Act) -> bool {
         }
         Act::GiveUp(number, _, _) => pool.is_alive(GetKey { number, place }),
         Act::PutBack(number, _) | Act::Detach(number) => pool.is_guarded(Key { number, place }),
+        Act::Evict(number) => pool.is_idle(Key { number, place }),
         Act::Opened(number) | Act::Failed(number) => pool.is_claimed(Key { number, place }),
         Act::Join => pool.fits_join(),
         Act::Leave => pool.fits_leave(),
@@ -126,11 +129,11 @@ fn try_get(pool: &mut PoolInternals<u64>, known: &mut Known, at: Moment, get: Ge
 fn checked_ok(pool: &mut PoolInternals<u64>, known: &Known, at: Moment, get: GetKey) -> Answer {
     let hint = known.hint(pool.held(get));
     let next = pool.next_number();
-    told_of_checked_ok(pool.checked_ok(at, get, hint), next)
+    outcome_of_checked_ok(pool.checked_ok(at, get, hint), next)
 }
 
 /// Returns the replay's result of a passed check. `next` is the next number.
-fn told_of_checked_ok(answer: Result<CheckedOkAnswer, Unfit>, next: u64) -> Answer {
+fn outcome_of_checked_ok(answer: Result<CheckedOkAnswer, Unfit>, next: u64) -> Answer {
     match answer {
         Ok(CheckedOkAnswer::Served(key)) => Answer::Served(key.number, Grant::of_nothing(next)),
         Err(Unfit) => Answer::Unfit,
@@ -145,11 +148,11 @@ fn checked_err(
     broken: bool,
 ) -> Answer {
     let held = pool.held(get);
-    told_of_checked_err(pool.checked_err(at, get, held.unwrap_or(0), broken, known.hint(held)))
+    outcome_of_checked_err(pool.checked_err(at, get, held.unwrap_or(0), broken, known.hint(held)))
 }
 
 /// Returns the replay's result of a failed check.
-fn told_of_checked_err(answer: Result<CheckedErrAnswer<u64>, u64>) -> Answer {
+fn outcome_of_checked_err(answer: Result<CheckedErrAnswer<u64>, u64>) -> Answer {
     match answer {
         Ok(CheckedErrAnswer::Closed(key, _, grant, notified)) => {
             Answer::Closed(key.number, grant, number_of(notified))
@@ -159,7 +162,7 @@ fn told_of_checked_err(answer: Result<CheckedErrAnswer<u64>, u64>) -> Answer {
 }
 
 /// Returns the replay's result of a get that timed out or was cancelled.
-fn told_of_give_up<U>(answer: Result<GiveUpAnswer<u64>, U>) -> Answer {
+fn outcome_of_give_up<U>(answer: Result<GiveUpAnswer<u64>, U>) -> Answer {
     match answer {
         Ok(GiveUpAnswer::GaveUp(notified)) => Answer::GaveUp(number_of(notified)),
         Ok(GiveUpAnswer::Kept(key, notified)) => Answer::Kept(key.number, number_of(notified)),
@@ -181,10 +184,10 @@ fn give_up(
     broken: bool,
 ) -> Answer {
     match pool.held(get) {
-        None => told_of_give_up(pool.give_up(at, get, reason, broken)),
+        None => outcome_of_give_up(pool.give_up(at, get, reason, broken)),
         Some(held) => {
             let hint = known.records.place(held);
-            told_of_give_up(pool.give_back(at, get, reason, held, broken, hint))
+            outcome_of_give_up(pool.give_back(at, get, reason, held, broken, hint))
         }
     }
 }
@@ -200,13 +203,27 @@ fn put_back(pool: &mut PoolInternals<u64>, at: Moment, key: Key, broken: bool) -
 }
 
 fn detach(pool: &mut PoolInternals<u64>, at: Moment, key: Key) -> Answer {
-    told_of_detach(pool.detach(at, key), key.number)
+    outcome_of_detach(pool.detach(at, key), key.number)
 }
 
 /// Returns the replay's result of a detach of this number.
-fn told_of_detach(answer: Result<DetachAnswer, Unfit>, number: u64) -> Answer {
+fn outcome_of_detach(answer: Result<DetachAnswer, Unfit>, number: u64) -> Answer {
     match answer {
         Ok(DetachAnswer::Detached(grant, notified)) => {
+            Answer::Closed(number, grant, number_of(notified))
+        }
+        Err(Unfit) => Answer::Unfit,
+    }
+}
+
+fn evict(pool: &mut PoolInternals<u64>, at: Moment, key: Key) -> Answer {
+    outcome_of_evict(pool.evict(at, key), key.number)
+}
+
+/// Returns the replay's result of an eviction of this number.
+fn outcome_of_evict(answer: Result<EvictAnswer<u64>, Unfit>, number: u64) -> Answer {
+    match answer {
+        Ok(EvictAnswer::Evicted(_, grant, notified)) => {
             Answer::Closed(number, grant, number_of(notified))
         }
         Err(Unfit) => Answer::Unfit,
@@ -233,11 +250,11 @@ fn opened(pool: &mut PoolInternals<u64>, at: Moment, key: Key) -> Answer {
 }
 
 fn failed(pool: &mut PoolInternals<u64>, at: Moment, key: Key) -> Answer {
-    told_of_failed(pool.failed(at, key))
+    outcome_of_failed(pool.failed(at, key))
 }
 
 /// Returns the replay's result of a failed connection attempt.
-fn told_of_failed(answer: Result<FailedAnswer, Unfit>) -> Answer {
+fn outcome_of_failed(answer: Result<FailedAnswer, Unfit>) -> Answer {
     match answer {
         Ok(FailedAnswer::GivenBack) => Answer::GivenBack,
         Err(Unfit) => Answer::Unfit,
@@ -259,15 +276,15 @@ fn add(pool: &mut PoolInternals<u64>, known: &mut Known, at: Moment, broken: boo
 }
 
 fn reap(pool: &mut PoolInternals<u64>, at: Moment) -> Answer {
-    told_of_reap(pool.reap(at))
+    outcome_of_reap(pool.reap(at))
 }
 
 fn retire(pool: &mut PoolInternals<u64>, at: Moment) -> Answer {
-    told_of_reap(pool.retire(at))
+    outcome_of_reap(pool.retire(at))
 }
 
 /// Returns the replay's result of a reap or a retire.
-fn told_of_reap(answer: ReapAnswer) -> Answer {
+fn outcome_of_reap(answer: ReapAnswer) -> Answer {
     match answer {
         ReapAnswer::Reaped {
             closed,
@@ -293,14 +310,16 @@ fn join(pool: &mut PoolInternals<u64>, at: Moment) -> Answer {
 }
 
 fn leave(pool: &mut PoolInternals<u64>, at: Moment) -> Answer {
-    match pool.leave(at) {
-        Ok(LeaveAnswer::Left(closed)) => Answer::Left(closed),
-        Err(Unfit) => Answer::Unfit,
-    }
+    outcome_of_leave(pool.leave(at))
 }
 
 fn close(pool: &mut PoolInternals<u64>, at: Moment) -> Answer {
-    match pool.close(at) {
+    outcome_of_leave(pool.close(at))
+}
+
+/// Returns the replay's result of a leave or a close.
+fn outcome_of_leave(answer: Result<LeaveAnswer, Unfit>) -> Answer {
+    match answer {
         Ok(LeaveAnswer::Left(closed)) => Answer::Left(closed),
         Err(Unfit) => Answer::Unfit,
     }
@@ -334,6 +353,7 @@ pub fn apply(pool: &mut PoolInternals<u64>, known: &mut Known, event: Event) -> 
         }
         Act::PutBack(number, broken) => put_back(pool, event.at, Key { number, place }, broken),
         Act::Detach(number) => detach(pool, event.at, Key { number, place }),
+        Act::Evict(number) => evict(pool, event.at, Key { number, place }),
         Act::Fill(claimed) => Answer::Granted(pool.fill(event.at, claimed)),
         Act::Ask => Answer::Granted(pool.ask(event.at)),
         Act::Claim => claim(pool, known, event.at),

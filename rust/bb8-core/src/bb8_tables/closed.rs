@@ -10,5 +10,5 @@ pub struct Closed<C> {
 }
 
 /// Closed connections, in the order in which they were closed. A step never grows this list: a
-/// connection that finds no room in it is dropped.
+/// connection for which it has no capacity is dropped.
 pub type ClosedList<C> = Ring<Closed<C>>;

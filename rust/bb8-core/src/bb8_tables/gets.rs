@@ -1,7 +1,7 @@
 //! The table of gets.
 
 use crate::bb8_tables::keys::GetKey;
-use crate::bb8_tables::table::{Lendings, Slot, Table};
+use crate::bb8_tables::table::{AccessCounter, Slot, Table};
 use crate::bb8_types::bounds::END_OF_NUMBERS;
 use crate::bb8_types::standing::{GetPlace, Getting};
 use crate::kit::{AllocError, Global};
@@ -101,19 +101,19 @@ impl Gets {
 
     /// Allocates for a higher peak. A wait needs no memory beyond this.
     #[cold]
-    fn make_room(&mut self) -> Result<(), AllocError> {
+    fn reserve_for(&mut self) -> Result<(), AllocError> {
         self.slots.reserve(1)?;
         self.peak += 1;
         Ok(())
     }
 
-    /// Makes sure that there is room for one more get. Returns false if memory is refused.
+    /// Reserves memory for one more get. Returns false if it is refused.
     #[inline]
-    pub fn make_room_for_one(&mut self) -> bool {
-        self.alive < self.peak || self.make_room().is_ok()
+    pub fn reserve_one(&mut self) -> bool {
+        self.alive < self.peak || self.reserve_for().is_ok()
     }
 
-    /// Adds a get with the next number. There must be room.
+    /// Adds a get with the next number. Memory must be reserved.
     fn bear(&mut self) -> GetKey {
         let number = self.next;
         let place = self.slots.insert(Slot {
@@ -134,9 +134,9 @@ impl Gets {
         self.next
     }
 
-    /// Adds a get with the next number that holds this connection at once. There must be room.
+    /// Adds a get with the next number that holds this connection at once. Memory must be reserved.
     #[inline]
-    pub fn bear_holding(&mut self, held: u64, lendings: &mut Lendings) -> GetKey {
+    pub fn bear_holding(&mut self, held: u64, accesses: &mut AccessCounter) -> GetKey {
         let number = self.next;
         let place = self.slots.insert(Slot {
             number,
@@ -145,15 +145,16 @@ impl Gets {
                 first_wait: None,
             },
         });
-        let _ = self.slots.turn(place, GetPlace::Holding(held), lendings);
+        let _ = self.slots.turn(place, GetPlace::Holding(held), accesses);
         self.next += 1;
         self.alive += 1;
         GetKey { number, place }
     }
 
-    /// Adds a get with the next number that waits at once, since `now`. There must be room.
+    /// Adds a get with the next number that waits at once, since `now`. Memory must be reserved.
+    // Saves 8 instructions of a pair.
     #[inline(always)]
-    pub fn bear_waiting(&mut self, now: u64, lendings: &mut Lendings) -> GetKey {
+    pub fn bear_waiting(&mut self, now: u64, accesses: &mut AccessCounter) -> GetKey {
         let number = self.next;
         let place = self.slots.insert(Slot {
             number,
@@ -162,7 +163,7 @@ impl Gets {
                 first_wait: None,
             },
         });
-        self.slots.wait(place, now, lendings);
+        self.slots.wait(place, now, accesses);
         self.slots.line_up(place);
         self.next += 1;
         self.alive += 1;
@@ -171,11 +172,11 @@ impl Gets {
 
     /// Returns whether a get can begin without an allocation: a number is left, and more gets were
     /// alive before.
-    pub fn has_room(&self) -> bool {
+    pub fn has_capacity(&self) -> bool {
         self.next < END_OF_NUMBERS && self.alive < self.peak
     }
 
-    /// Returns the next number, for a get that begins and ends at once. There must be room.
+    /// Returns the next number, for a get that begins and ends at once. Memory must be reserved.
     pub fn begin_and_end(&mut self) -> u64 {
         let number = self.next;
         self.next += 1;
@@ -186,7 +187,7 @@ impl Gets {
     /// are alive as ever were.
     #[inline]
     pub fn begin(&mut self) -> Option<GetKey> {
-        if !self.make_room_for_one() {
+        if !self.reserve_one() {
             return None;
         }
         Some(self.bear())
@@ -194,11 +195,11 @@ impl Gets {
 
     /// Makes a get wait that is not an unnotified waiter. It waits since `now` if it did not wait
     /// before.
-    pub fn wait(&mut self, g: GetKey, now: u64, lendings: &mut Lendings) {
-        match self.slots.locate(g.number, g.place, lendings) {
+    pub fn wait(&mut self, g: GetKey, now: u64, accesses: &mut AccessCounter) {
+        match self.slots.locate(g.number, g.place, accesses) {
             None => {}
             Some(place) => {
-                self.slots.wait(place, now, lendings);
+                self.slots.wait(place, now, accesses);
                 self.slots.line_up(place);
             }
         }
@@ -206,22 +207,23 @@ impl Gets {
 
     /// Changes the state of a get that is in no queue: it holds a connection now, or is active
     /// again.
-    pub fn turn(&mut self, g: GetKey, place: GetPlace, lendings: &mut Lendings) {
-        match self.slots.locate(g.number, g.place, lendings) {
+    pub fn turn(&mut self, g: GetKey, place: GetPlace, accesses: &mut AccessCounter) {
+        match self.slots.locate(g.number, g.place, accesses) {
             None => {}
             Some(at) => {
-                let _ = self.slots.turn(at, place, lendings);
+                let _ = self.slots.turn(at, place, accesses);
             }
         }
     }
 
     /// Notifies the longest waiter that was not notified, and returns it.
+    // Saves 14 instructions of a pair.
     #[inline(always)]
-    pub fn notify(&mut self, lendings: &mut Lendings) -> Option<GetKey> {
+    pub fn notify(&mut self, accesses: &mut AccessCounter) -> Option<GetKey> {
         match self.slots.first() {
             None => None,
             Some(place) => {
-                let number = self.slots.turn(place, GetPlace::Waiting(true), lendings);
+                let number = self.slots.turn(place, GetPlace::Waiting(true), accesses);
                 self.slots.leave(place);
                 Some(GetKey { number, place })
             }
@@ -231,13 +233,13 @@ impl Gets {
     /// Makes a get active again that holds a connection, and returns that connection's number.
     /// Returns None and changes nothing if it holds none. Looks it up once.
     #[inline]
-    pub fn let_go(&mut self, g: GetKey, lendings: &mut Lendings) -> Option<u64> {
-        match self.slots.locate(g.number, g.place, lendings) {
+    pub fn let_go(&mut self, g: GetKey, accesses: &mut AccessCounter) -> Option<u64> {
+        match self.slots.locate(g.number, g.place, accesses) {
             None => None,
-            Some(place) => match self.slots.at(place, lendings).standing.place {
+            Some(place) => match self.slots.at(place, accesses).standing.place {
                 GetPlace::Active | GetPlace::Waiting(_) => None,
                 GetPlace::Holding(held) => {
-                    let _ = self.slots.turn(place, GetPlace::Active, lendings);
+                    let _ = self.slots.turn(place, GetPlace::Active, accesses);
                     Some(held)
                 }
             },
@@ -246,12 +248,13 @@ impl Gets {
 
     /// Ends a get that is alive and holds nothing, and returns its last state. Returns None and
     /// changes nothing if there is no such get. Looks it up once.
+    // Saves 32 instructions of a cancelled get.
     #[inline(always)]
-    pub fn end(&mut self, g: GetKey, lendings: &mut Lendings) -> Option<Getting> {
-        match self.slots.locate(g.number, g.place, lendings) {
+    pub fn end(&mut self, g: GetKey, accesses: &mut AccessCounter) -> Option<Getting> {
+        match self.slots.locate(g.number, g.place, accesses) {
             None => None,
             Some(place) => {
-                let getting = self.slots.at(place, lendings).standing;
+                let getting = self.slots.at(place, accesses).standing;
                 if !is_trying(Some(getting)) {
                     return None;
                 }
@@ -263,9 +266,10 @@ impl Gets {
     }
 
     /// Ends a get that is alive and in no queue.
+    // Saves 11 instructions of a waiting get.
     #[inline(always)]
-    pub fn finish(&mut self, g: GetKey, lendings: &mut Lendings) {
-        match self.slots.locate(g.number, g.place, lendings) {
+    pub fn finish(&mut self, g: GetKey, accesses: &mut AccessCounter) {
+        match self.slots.locate(g.number, g.place, accesses) {
             None => {}
             Some(place) => {
                 let _ = self.slots.remove(place);
@@ -276,16 +280,17 @@ impl Gets {
 
     /// Ends a get that holds a connection. Returns that connection's number and the moment of the
     /// get's first wait. Returns None and changes nothing if it holds none. Looks it up once.
+    // Saves 30 instructions of a pair.
     #[inline(always)]
     pub fn finish_holding(
         &mut self,
         g: GetKey,
-        lendings: &mut Lendings,
+        accesses: &mut AccessCounter,
     ) -> Option<(u64, Option<u64>)> {
-        match self.slots.locate(g.number, g.place, lendings) {
+        match self.slots.locate(g.number, g.place, accesses) {
             None => None,
             Some(place) => {
-                let getting = self.slots.at(place, lendings).standing;
+                let getting = self.slots.at(place, accesses).standing;
                 match getting.place {
                     GetPlace::Active | GetPlace::Waiting(_) => None,
                     GetPlace::Holding(held) => {
@@ -299,17 +304,18 @@ impl Gets {
     }
 
     /// Returns the key of a get, None if it is not alive.
-    pub fn find(&self, number: u64, lendings: &mut Lendings) -> Option<GetKey> {
-        match self.slots.locate(number, 0, lendings) {
+    pub fn find(&self, number: u64, accesses: &mut AccessCounter) -> Option<GetKey> {
+        match self.slots.locate(number, 0, accesses) {
             None => None,
             Some(place) => Some(GetKey { number, place }),
         }
     }
 
     /// Returns the state of a get, None if it is not alive.
+    // Saves 23 instructions of a waiting get.
     #[inline(always)]
-    pub fn getting(&self, g: GetKey, lendings: &mut Lendings) -> Option<Getting> {
-        match self.slots.slot(g.number, g.place, lendings) {
+    pub fn getting(&self, g: GetKey, accesses: &mut AccessCounter) -> Option<Getting> {
+        match self.slots.slot(g.number, g.place, accesses) {
             None => None,
             Some(slot) => Some(slot.standing),
         }

@@ -5,7 +5,7 @@ mod reaps;
 use crate::bb8_tables::closed::{Closed, ClosedList};
 use crate::bb8_tables::keys::Key;
 use crate::bb8_tables::ring::Ring;
-use crate::bb8_tables::table::{Lendings, Slot, Table, UncountedAccess};
+use crate::bb8_tables::table::{AccessCounter, Slot, Table, UncountedAccess};
 use crate::bb8_types::api::QueueStrategy;
 use crate::bb8_types::bounds::END_OF_NUMBERS;
 use crate::bb8_types::grants::Grant;
@@ -29,6 +29,13 @@ fn is_claimed<C>(place: &Place<C>) -> bool {
     match place {
         Place::Claimed => true,
         Place::Unclaimed | Place::Idle(_) | Place::Held(_) | Place::Guarded => false,
+    }
+}
+
+fn is_idle<C>(place: &Place<C>) -> bool {
+    match place {
+        Place::Idle(_) => true,
+        Place::Unclaimed | Place::Claimed | Place::Held(_) | Place::Guarded => false,
     }
 }
 
@@ -126,17 +133,17 @@ impl<C> Records<C> {
         (records, asking)
     }
 
-    /// Returns a list without room. It allocates nothing.
+    /// Returns a list without capacity. It allocates nothing.
     pub fn no_list(&self) -> ClosedList<C> {
         self.unclaimed.another()
     }
 
     /// Claims the unclaimed approval with the lowest number.
-    pub fn claim(&mut self, lendings: &mut Lendings) -> Option<Key> {
+    pub fn claim(&mut self, accesses: &mut AccessCounter) -> Option<Key> {
         match self.unclaimed.pop() {
             None => None,
             Some(key) => {
-                let _ = self.slots.put(key.place, Place::Claimed, lendings);
+                let _ = self.slots.put(key.place, Place::Claimed, accesses);
                 Some(key)
             }
         }
@@ -144,26 +151,31 @@ impl<C> Records<C> {
 
     /// Returns when the first idle connection became idle. Reads one entry.
     #[inline]
-    pub fn first_entered(&self, strategy: QueueStrategy, lendings: &mut Lendings) -> Option<u64> {
+    pub fn first_entered(
+        &self,
+        strategy: QueueStrategy,
+        accesses: &mut AccessCounter,
+    ) -> Option<u64> {
         match self.slots.first_by(strategy) {
             None => None,
-            Some(place) => Some(self.slots.at(place, lendings).standing.entered),
+            Some(place) => Some(self.slots.at(place, accesses).standing.entered),
         }
     }
 
     /// Checks out the first idle connection to this holder.
+    // Saves 42 instructions of a pair.
     #[inline(always)]
     pub fn take(
         &mut self,
         strategy: QueueStrategy,
         holder: Holder,
-        lendings: &mut Lendings,
+        accesses: &mut AccessCounter,
     ) -> Option<(Key, C)> {
         match self.slots.first_by(strategy) {
             None => None,
             Some(place) => {
                 self.slots.leave(place);
-                let (number, was) = self.slots.put(place, place_of(holder), lendings);
+                let (number, was) = self.slots.put(place, place_of(holder), accesses);
                 match connection_of(was) {
                     None => None,
                     Some(conn) => Some((Key { number, place }, conn)),
@@ -174,11 +186,11 @@ impl<C> Records<C> {
 
     /// Changes the holder of a checked-out connection to a guard, and returns its key with a fresh
     /// hint.
-    pub fn hand_over(&mut self, k: Key, lendings: &mut Lendings) -> Key {
-        match self.slots.locate(k.number, k.place, lendings) {
+    pub fn hand_over(&mut self, k: Key, accesses: &mut AccessCounter) -> Key {
+        match self.slots.locate(k.number, k.place, accesses) {
             None => k,
             Some(place) => {
-                let _ = self.slots.put(place, Place::Guarded, lendings);
+                let _ = self.slots.put(place, Place::Guarded, accesses);
                 Key {
                     number: k.number,
                     place,
@@ -190,11 +202,17 @@ impl<C> Records<C> {
     /// Adds the connection of a claimed approval as idle, born now. Returns the connection and
     /// changes nothing if the number is not that of a claimed approval. No birth and no entry may
     /// be later than `now`. Looks the approval up once.
-    pub fn enter(&mut self, k: Key, conn: C, now: u64, lendings: &mut Lendings) -> Result<(), C> {
-        match self.slots.locate(k.number, k.place, lendings) {
+    pub fn enter(
+        &mut self,
+        k: Key,
+        conn: C,
+        now: u64,
+        accesses: &mut AccessCounter,
+    ) -> Result<(), C> {
+        match self.slots.locate(k.number, k.place, accesses) {
             None => Err(conn),
             Some(place) => {
-                if !is_claimed(&self.slots.at(place, lendings).standing.place) {
+                if !is_claimed(&self.slots.at(place, accesses).standing.place) {
                     return Err(conn);
                 }
                 let idle = Standing {
@@ -202,7 +220,7 @@ impl<C> Records<C> {
                     birth: now,
                     entered: now,
                 };
-                let _ = self.slots.replace(place, idle, lendings);
+                let _ = self.slots.replace(place, idle, accesses);
                 self.slots.line_up(place);
                 self.slots.add_birth(place);
                 self.conns += 1;
@@ -213,10 +231,11 @@ impl<C> Records<C> {
     }
 
     /// Makes a checked-out connection idle again; it keeps its birth. Returns it instead, with
-    /// whether it is older than `greatest_age`, and changes nothing, if it is broken or older than
+    /// whether it is older than `max_age`, and changes nothing, if it is broken or older than
     /// that, or the pool has ended. Returns `Err` with the connection and changes nothing if it is
     /// not checked out by this holder. No birth and no entry may be later than `now`. Looks the
     /// connection up once.
+    // Saves 43 instructions of a pair.
     #[inline(always)]
     pub fn put_back(
         &mut self,
@@ -225,19 +244,19 @@ impl<C> Records<C> {
         holder: Holder,
         broken: bool,
         ended: bool,
-        greatest_age: u64,
+        max_age: u64,
         now: u64,
-        lendings: &mut Lendings,
+        accesses: &mut AccessCounter,
     ) -> Result<Result<(), (C, bool)>, C> {
-        match self.slots.locate(k.number, k.place, lendings) {
+        match self.slots.locate(k.number, k.place, accesses) {
             None => Err(conn),
             Some(place) => {
-                let standing = &self.slots.at(place, lendings).standing;
+                let standing = &self.slots.at(place, accesses).standing;
                 if !is_with(&standing.place, holder) {
                     return Err(conn);
                 }
                 let birth = standing.birth;
-                let older = greatest_age < now - birth;
+                let older = max_age < now - birth;
                 if is_closing(broken, older, ended) {
                     return Ok(Err((conn, older)));
                 }
@@ -246,7 +265,7 @@ impl<C> Records<C> {
                     birth,
                     entered: now,
                 };
-                let _ = self.slots.replace(place, idle, lendings);
+                let _ = self.slots.replace(place, idle, accesses);
                 self.slots.line_up(place);
                 Ok(Ok(()))
             }
@@ -255,11 +274,11 @@ impl<C> Records<C> {
 
     /// Ends a claimed approval. Returns false and changes nothing if the number is not that of one.
     /// Looks it up once.
-    pub fn end_claimed(&mut self, k: Key, lendings: &mut Lendings) -> bool {
-        match self.slots.locate(k.number, k.place, lendings) {
+    pub fn end_claimed(&mut self, k: Key, accesses: &mut AccessCounter) -> bool {
+        match self.slots.locate(k.number, k.place, accesses) {
             None => false,
             Some(at) => {
-                if !is_claimed(&self.slots.at(at, lendings).standing.place) {
+                if !is_claimed(&self.slots.at(at, accesses).standing.place) {
                     return false;
                 }
                 let _ = self.slots.remove(at);
@@ -270,12 +289,31 @@ impl<C> Records<C> {
     }
 
     /// Ends a checked-out connection.
-    pub fn close(&mut self, k: Key, lendings: &mut Lendings) {
-        match self.slots.locate(k.number, k.place, lendings) {
+    pub fn close(&mut self, k: Key, accesses: &mut AccessCounter) {
+        match self.slots.locate(k.number, k.place, accesses) {
             None => {}
             Some(place) => {
                 let _ = self.slots.remove(place);
                 self.conns -= 1;
+            }
+        }
+    }
+
+    /// Ends an idle connection, wherever it is in the queue, and returns it. Returns None and
+    /// changes nothing if the number is not that of one. Looks it up once.
+    pub fn evict(&mut self, k: Key, accesses: &mut AccessCounter) -> Option<C> {
+        match self.slots.locate(k.number, k.place, accesses) {
+            None => None,
+            Some(place) => {
+                if !is_idle(&self.slots.at(place, accesses).standing.place) {
+                    return None;
+                }
+                let Slot {
+                    number: _,
+                    standing,
+                } = self.slots.take_out(place);
+                self.conns -= 1;
+                connection_of(standing.place)
             }
         }
     }
@@ -329,7 +367,7 @@ impl<C> Records<C> {
     }
 
     /// Allocates for a higher peak.
-    fn make_room(&mut self, peak: u64) -> Result<(), AllocError> {
+    fn reserve_for(&mut self, peak: u64) -> Result<(), AllocError> {
         let free = peak - (self.conns + self.approved);
         self.slots.reserve(free as usize)?;
         self.unclaimed.grow(peak as usize)?;
@@ -337,13 +375,13 @@ impl<C> Records<C> {
         Ok(())
     }
 
-    /// Makes sure that there is room for one more record. Returns false if memory is refused.
-    fn make_room_for_one(&mut self) -> bool {
+    /// Reserves memory for one more record. Returns false if it is refused.
+    fn reserve_one(&mut self) -> bool {
         let used = self.used();
-        used < self.peak || self.make_room(used + 1).is_ok()
+        used < self.peak || self.reserve_for(used + 1).is_ok()
     }
 
-    /// Adds an idle connection with the next number. There must be room.
+    /// Adds an idle connection with the next number. Memory must be reserved.
     fn bear(&mut self, conn: C, now: u64) -> Key {
         let number = self.next;
         let place = self.slots.insert(Slot {
@@ -365,7 +403,7 @@ impl<C> Records<C> {
     /// requested only if there are as many records as ever were. No birth and no entry may be later
     /// than `now`.
     pub fn add(&mut self, conn: C, now: u64) -> Result<Key, C> {
-        if !self.make_room_for_one() {
+        if !self.reserve_one() {
             return Err(conn);
         }
         Ok(self.bear(conn, now))
@@ -381,7 +419,7 @@ impl<C> Records<C> {
         self.next
     }
 
-    /// Adds one approval. There must be room.
+    /// Adds one approval. Memory must be reserved.
     fn approve(&mut self, claimed: bool) {
         let number = self.next;
         let place = self.slots.insert(Slot {
@@ -393,7 +431,7 @@ impl<C> Records<C> {
         self.approved += 1;
     }
 
-    /// Grants the approvals that are due, as far as room and memory allow. All memory is requested
+    /// Grants the approvals that are due, if memory and numbers allow it. All memory is requested
     /// before the first one is added.
     #[cold]
     fn grant_some(&mut self, due: u64, claimed: bool) -> Grant {
@@ -401,7 +439,7 @@ impl<C> Records<C> {
         let possible = due.min(END_OF_NUMBERS - self.next);
         let below = possible.min(self.peak - taken);
         let first = self.next;
-        let count = if below < possible && self.make_room(taken + possible).is_ok() {
+        let count = if below < possible && self.reserve_for(taken + possible).is_ok() {
             possible
         } else {
             below
@@ -451,32 +489,40 @@ impl<C> Records<C> {
     }
 
     /// Returns the birth of a record.
-    pub fn birth(&self, k: Key, lendings: &mut Lendings) -> u64 {
-        match self.slots.slot(k.number, k.place, lendings) {
+    pub fn birth(&self, k: Key, accesses: &mut AccessCounter) -> u64 {
+        match self.slots.slot(k.number, k.place, accesses) {
             None => 0,
             Some(slot) => slot.standing.birth,
         }
     }
 
     /// Returns the key of a record, None if it has ended.
-    pub fn find(&self, number: u64, lendings: &mut Lendings) -> Option<Key> {
-        match self.slots.locate(number, 0, lendings) {
+    pub fn find(&self, number: u64, accesses: &mut AccessCounter) -> Option<Key> {
+        match self.slots.locate(number, 0, accesses) {
             None => None,
             Some(place) => Some(Key { number, place }),
         }
     }
 
     /// Returns whether a record is a claimed approval.
-    pub fn is_claimed(&self, k: Key, lendings: &mut Lendings) -> bool {
-        match self.slots.slot(k.number, k.place, lendings) {
+    pub fn is_claimed(&self, k: Key, accesses: &mut AccessCounter) -> bool {
+        match self.slots.slot(k.number, k.place, accesses) {
             None => false,
             Some(slot) => is_claimed(&slot.standing.place),
         }
     }
 
+    /// Returns whether a record is an idle connection.
+    pub fn is_idle(&self, k: Key, accesses: &mut AccessCounter) -> bool {
+        match self.slots.slot(k.number, k.place, accesses) {
+            None => false,
+            Some(slot) => is_idle(&slot.standing.place),
+        }
+    }
+
     /// Returns whether a guard holds a record.
-    pub fn is_guarded(&self, k: Key, lendings: &mut Lendings) -> bool {
-        match self.slots.slot(k.number, k.place, lendings) {
+    pub fn is_guarded(&self, k: Key, accesses: &mut AccessCounter) -> bool {
+        match self.slots.slot(k.number, k.place, accesses) {
             None => false,
             Some(slot) => is_guarded(&slot.standing.place),
         }

@@ -32,7 +32,7 @@ impl<T> Ring<T> {
         }
     }
 
-    /// Adds an item at the back. There must be room.
+    /// Adds an item at the back. There must be capacity for it.
     pub fn push(&mut self, item: T) {
         match &mut self.made {
             Some(ring) => {
@@ -42,7 +42,7 @@ impl<T> Ring<T> {
         }
     }
 
-    /// Adds an item at the back if there is room; otherwise drops it.
+    /// Adds an item at the back if there is capacity for it; otherwise drops it.
     pub fn offer(&mut self, item: T) {
         match &mut self.made {
             Some(ring) => {

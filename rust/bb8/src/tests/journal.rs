@@ -1,5 +1,5 @@
-//! A core that notes each of its steps as an event with its answer, and the judge of the notes: the
-//! proved `replay`, which knows nothing of this crate.
+//! A core that notes each of its steps as an event with its result. The proved `replay`, which
+//! knows nothing of this crate, has to give the same results.
 
 use crate::core::*;
 use bb8_core::api::{Config, State};
@@ -53,7 +53,7 @@ fn of_reap(answer: ReapAnswer) -> Answer {
     }
 }
 
-/// Where an empty grant begins is of no interest.
+/// Drops the first number of an empty grant, which means nothing.
 fn plain(answer: Answer) -> Answer {
     let plain = |mut grant: Grant| {
         if grant.count == 0 {
@@ -83,7 +83,7 @@ fn plain(answer: Answer) -> Answer {
 }
 
 impl<C> Noted<C> {
-    /// Replays all events that were noted. Panics unless the answers are those that were noted.
+    /// Replays all events that were noted. Panics unless the results are those that were noted.
     /// Returns how many there are.
     pub(crate) fn judge(&self) -> usize {
         let events: Vec<Event> = self.notes.iter().map(|(event, _)| *event).collect();
@@ -105,13 +105,19 @@ impl<C> Noted<C> {
             .count()
     }
 
+    /// How many idle connections were closed at their own ends.
+    pub(crate) fn evicted(&self) -> u64 {
+        let evicted = |(event, _): &&(Event, Answer)| matches!(event.act, Act::Evict(_));
+        self.notes.iter().filter(evicted).count() as u64
+    }
+
     /// How many connections came too late.
     pub(crate) fn late(&self) -> u64 {
         let late = |(_, answer): &&(Event, Answer)| matches!(answer, Answer::Late(_));
         self.notes.iter().filter(late).count() as u64
     }
 
-    /// Makes the journal wrong: as if the last event had been answered otherwise.
+    /// Makes the journal wrong: as if the last event had had another result.
     pub(crate) fn falsify(&mut self) {
         let (_, answer) = self.notes.last_mut().expect("something happened");
         *answer = Answer::Unfit;
@@ -319,6 +325,14 @@ impl<C> Noted<C> {
         let DetachAnswer::Detached(grant, get) = answer;
         let noted = Answer::Closed(key.number, grant, number(get));
         self.note(at, Act::Detach(key.number), noted);
+        Ok(answer)
+    }
+
+    pub(crate) fn evict(&mut self, at: Moment, key: Key) -> Result<EvictAnswer<Held<C>>, Unfit> {
+        let answer = self.core.evict(at, key)?;
+        let EvictAnswer::Evicted(_, grant, get) = &answer;
+        let noted = Answer::Closed(key.number, *grant, number(*get));
+        self.note(at, Act::Evict(key.number), noted);
         Ok(answer)
     }
 

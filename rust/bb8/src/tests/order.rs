@@ -1,5 +1,5 @@
-//! Who is served, where gets wait: whoever asks first, or, by `fair_after`, the one whose turn it
-//! is.
+//! The order in which waiting gets are served: by default the first to ask, and with `fair_after`
+//! the one that waits longest.
 
 use crate::getting::Getting;
 use crate::{ManageConnection, Pool, PooledConnection, RunError};
@@ -14,7 +14,7 @@ use std::time::Duration;
 #[derive(Debug)]
 struct Invalid;
 
-/// Its connections are numbered. So many checks fail next, and so many returns are of broken ones.
+/// Its connections are numbered. The next checks may fail, and the next returns be of broken ones.
 #[derive(Default)]
 struct Numbered {
     opened: AtomicU32,
@@ -22,7 +22,7 @@ struct Numbered {
     breaks: Arc<AtomicU32>,
 }
 
-/// Counts down; whether there was something left.
+/// Counts down. Returns whether something was left.
 fn counts_down(left: &AtomicU32) -> bool {
     let less = |left: u32| left.checked_sub(1);
     left.fetch_update(Ordering::SeqCst, Ordering::SeqCst, less)
@@ -76,7 +76,7 @@ impl Hand {
         }
     }
 
-    /// One that has been polled, and waits.
+    /// Returns a get that has been polled and waits.
     fn waiting(pool: &Pool<Numbered>) -> Self {
         let mut hand = Hand::of(pool);
         assert!(hand.poll().is_none());
@@ -125,7 +125,7 @@ fn assert_calm(pool: &Pool<Numbered>) {
 }
 
 #[tokio::test]
-async fn whoever_asks_first_overtakes() {
+async fn a_new_get_overtakes_a_woken_one() {
     let pool = pool(false, None).await;
     let conn = pool.get().await.unwrap();
     let mut first = Hand::waiting(&pool);
@@ -145,7 +145,7 @@ async fn gets_are_served_in_their_order() {
         let mut waiting: Vec<Hand> = (0..5).map(|_| Hand::waiting(&pool)).collect();
         for turn in 0..5 {
             drop(conn.take());
-            // What came free was handed to the oldest, and no other gets it, old or new.
+            // The connection was handed off to the oldest, and no other gets it, old or new.
             for (place, hand) in waiting.iter_mut().enumerate().rev() {
                 assert_eq!(hand.woken(), u32::from(place == 0), "turn {turn}");
                 conn = hand.poll();
@@ -162,7 +162,7 @@ async fn gets_are_served_in_their_order() {
 }
 
 #[tokio::test]
-async fn what_nobody_comes_for_goes_to_the_next() {
+async fn a_dropped_get_passes_its_connection_on() {
     for check in [false, true] {
         let pool = pool(check, Some(Duration::ZERO)).await;
         let conn = pool.get().await.unwrap();
@@ -175,7 +175,7 @@ async fn what_nobody_comes_for_goes_to_the_next() {
         let got = second.poll();
         assert!(matches!(got, Some(Ok(_))));
         drop(got);
-        // With the check on it was let go before it was served.
+        // With the check on it was cancelled before it was served.
         let state = pool.state().statistics;
         let counts = (state.get_waited, state.get_cancelled);
         assert_eq!(counts, if check { (1, 1) } else { (2, 0) });
@@ -184,7 +184,7 @@ async fn what_nobody_comes_for_goes_to_the_next() {
 }
 
 #[tokio::test(start_paused = true)]
-async fn what_was_handed_in_time_is_served_after_it() {
+async fn a_connection_handed_off_in_time_is_served_after_the_deadline() {
     for check in [false, true] {
         let pool = pool(check, Some(Duration::ZERO)).await;
         let conn = pool.get().await.unwrap();
@@ -225,7 +225,7 @@ async fn a_connection_handed_off_at_the_deadline_is_served_or_returned() {
 }
 
 #[tokio::test(start_paused = true)]
-async fn a_wait_counts_from_where_it_began() {
+async fn wait_time_counts_from_the_first_wait() {
     for check in [false, true] {
         let pool = pool(check, None).await;
         let conn = pool.get().await.unwrap();
@@ -241,7 +241,7 @@ async fn a_wait_counts_from_where_it_began() {
 }
 
 #[tokio::test(start_paused = true)]
-async fn only_who_has_waited_so_long_is_handed_it() {
+async fn only_a_get_that_waited_for_fair_after_is_handed_a_connection() {
     let pool = pool(false, Some(Duration::from_millis(1))).await;
     tokio::time::advance(Duration::from_secs(5)).await;
     let mut newer = pool.get().await.unwrap();
@@ -284,7 +284,7 @@ async fn a_failed_check_goes_on_by_itself() {
 }
 
 #[tokio::test(start_paused = true)]
-async fn one_is_opened_anew_for_who_waits() {
+async fn a_connection_is_opened_for_a_waiting_get() {
     for check in [false, true] {
         let manager = Numbered::default();
         let breaks = manager.breaks.clone();

@@ -1,7 +1,7 @@
 //! Storms: many tasks get, try, cancel, time out, break, fail checks, release, detach, add, reap
 //! and retire, and ask again for attempts that failed. Afterwards nothing is lost, the pool is
-//! closed, the statistics are those that were counted outside of the pool, and every step was
-//! answered as the proved `replay` answers it.
+//! closed, the statistics are those that were counted outside of the pool, and every step had
+//! the result that the proved `replay` gives.
 
 use crate::{
     CustomizeConnection, ManageConnection, Pool, PooledConnection, QueueStrategy, RunError, State,
@@ -59,8 +59,8 @@ impl Tally {
     }
 }
 
-/// Compares the state of a pool in which nothing is under way with the counts of then, and with how
-/// many connections came too late, which were never the pool's.
+/// Compares the state of a pool in which nothing is in progress with the counts of that moment. The
+/// connections that came too late were never the pool's.
 fn compare(state: &State, [opened, dropped, by_manager, added, detached]: [u64; 5], late: u64) {
     let seen = &state.statistics;
     let created = (seen.connections_created + late, seen.connections_added);
@@ -161,7 +161,7 @@ fn add(pool: &Pool<Wild>, tally: &Arc<Tally>) {
     }
 }
 
-/// What one task does.
+/// The work of one task.
 async fn rounds(pool: Pool<Wild>, tally: Arc<Tally>, dice: Dice, rounds: u64) {
     let brief = || Duration::from_micros(dice.roll(3000));
     for _ in 0..rounds {
@@ -201,8 +201,8 @@ async fn rounds(pool: Pool<Wild>, tally: Arc<Tally>, dice: Dice, rounds: u64) {
     }
 }
 
-/// The state at a moment at which nothing is under way, and the counts of then; the reaper goes on,
-/// so it is sought.
+/// Waits for a moment at which nothing is in progress, as the reaper still runs. Returns the state
+/// and the counts of that moment.
 async fn calm(pool: &Pool<Wild>, tally: &Tally) -> (State, [u64; 5]) {
     for _ in 0..5000 {
         let counts = tally.counts();
@@ -217,7 +217,7 @@ async fn calm(pool: &Pool<Wild>, tally: &Tally) -> (State, [u64; 5]) {
     panic!("no calm comes");
 }
 
-async fn storm(weather: Weather) -> [u64; 16] {
+async fn storm(weather: Weather) -> [u64; 17] {
     let tally: Arc<Tally> = Arc::default();
     let manager = Wild {
         dice: Dice::new(0),
@@ -252,7 +252,7 @@ async fn storm(weather: Weather) -> [u64; 16] {
     for task in tasks {
         task.await.unwrap();
     }
-    // Some more, as those that were retired or detached left few that are idle for long.
+    // Some more, as after retires and detaches few are idle for long.
     for _ in 0..20 {
         add(&pool, &tally);
         sleep(Duration::from_millis(1)).await;
@@ -260,7 +260,10 @@ async fn storm(weather: Weather) -> [u64; 16] {
     // Long enough for idle connections to be closed, as nobody takes them.
     sleep(Duration::from_millis(30)).await;
     let (state, outside) = calm(&pool, &tally).await;
-    let late = pool.shared().lock().core.late();
+    let (late, evicted) = {
+        let core = &pool.shared().lock().core;
+        (core.late(), core.evicted())
+    };
     let seen = &state.statistics;
     assert_eq!(seen.pending_gets(), 0);
     println!("{weather:?}: {state:?}");
@@ -279,6 +282,7 @@ async fn storm(weather: Weather) -> [u64; 16] {
         seen.connections_closed_idle_timeout,
         seen.connections_closed_retired,
         late,
+        evicted,
         seen.connections_detached,
         tally.tried.load(Ordering::SeqCst),
         tally.not_kept.load(Ordering::SeqCst),
@@ -338,8 +342,8 @@ const KINDS: [Kind; 12] = [
     (true, 1, QueueStrategy::Lifo, Some(0), 0.0),
 ];
 
-/// A weather of this kind. In a fair pool hardly a get would time out that waits as long as in
-/// others.
+/// Returns the weather of this kind. Gets of a fair pool have less time, as otherwise hardly one
+/// would time out.
 fn weather((check, test_after, order, fair_after, jitter): Kind) -> Weather {
     Weather {
         check,
@@ -353,10 +357,10 @@ fn weather((check, test_after, order, fair_after, jitter): Kind) -> Weather {
     }
 }
 
-/// All kinds of weather. Everything that is counted happens in some of them; in which ones, is up
-/// to the machine.
+/// All kinds of weather. Each statistic rises in some of them; in which ones depends on the
+/// machine.
 async fn storms() {
-    let mut sums = [0; 16];
+    let mut sums = [0; 17];
     for kind in KINDS {
         let counts = storm(weather(kind)).await;
         sums.iter_mut()
@@ -368,13 +372,13 @@ async fn storms() {
 
 /// All kinds of weather on four threads.
 #[tokio::test(flavor = "multi_thread", worker_threads = 4)]
-async fn four_threads_by_the_machine_s_clock() {
+async fn four_threads_on_the_system_clock() {
     storms().await;
 }
 
-/// The same on one thread, whose clock stands but where all tasks sleep: so ages, timeouts, waits
+/// The same on one thread, whose clock moves only when all tasks sleep: so ages, timeouts, waits
 /// between tries and reaps come at moments of that clock.
 #[tokio::test(start_paused = true)]
-async fn one_thread_by_a_paused_clock() {
+async fn one_thread_on_a_paused_clock() {
     storms().await;
 }

@@ -1,11 +1,11 @@
-//! What the pool keeps for waiting gets.
+//! The memory that the pool keeps for waiting gets.
 
 use crate::boxed::Reserved;
 use crate::core::{Checkout, GetKey, Key};
 use crate::waiters::{Handed, Waiters};
 use futures_util::task::noop_waker;
 
-/// A get of this number. Its place is its number.
+/// A get of this number, which is also its index.
 fn get(number: u64) -> GetKey {
     GetKey {
         number,

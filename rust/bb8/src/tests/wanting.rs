@@ -1,4 +1,4 @@
-//! Want of memory is an answer.
+//! Refused memory is reported as an error.
 
 use crate::{AddError, ManageConnection, Pool, RunError};
 use bb8_core::kit::refusals::granting;
@@ -43,7 +43,7 @@ impl ManageConnection for Counting {
 }
 
 #[tokio::test]
-async fn a_get_and_an_adding_tell_that_memory_was_refused() {
+async fn get_and_add_report_refused_memory() {
     let open = Arc::new(AtomicU32::new(0));
     let pool = Pool::builder()
         .max_size(2)
@@ -61,7 +61,7 @@ async fn a_get_and_an_adding_tell_that_memory_was_refused() {
 }
 
 #[tokio::test]
-async fn a_try_tells_that_memory_was_refused() {
+async fn try_get_reports_refused_memory() {
     for check in [false, true] {
         let open = Arc::new(AtomicU32::new(0));
         let builder = Pool::builder().min_idle(1).test_on_check_out(check);
@@ -77,7 +77,7 @@ async fn a_try_tells_that_memory_was_refused() {
 }
 
 #[tokio::test(start_paused = true)]
-async fn a_reap_for_which_memory_was_refused_is_made_up_for() {
+async fn the_next_reap_makes_up_for_one_without_memory() {
     let open = Arc::new(AtomicU32::new(0));
     let pool = Pool::builder()
         .max_size(3)
@@ -98,7 +98,7 @@ async fn a_reap_for_which_memory_was_refused_is_made_up_for() {
 }
 
 #[tokio::test(start_paused = true)]
-async fn a_retiring_or_a_close_for_which_memory_was_refused_changes_nothing() {
+async fn retire_and_close_without_memory_change_nothing() {
     let open = Arc::new(AtomicU32::new(0));
     let builder = Pool::builder().max_size(3).min_idle(3);
     let pool = builder.build(Counting(open.clone())).await.unwrap();
@@ -118,7 +118,7 @@ async fn a_retiring_or_a_close_for_which_memory_was_refused_changes_nothing() {
     assert!(pool.shared().lock().core.judge() > 3);
 }
 
-/// Three gets and an adding over a pool, each of which may be refused.
+/// Three gets and an add over a pool. Each may be refused.
 async fn use_of(pool: &Pool<Counting>, open: &Arc<AtomicU32>) {
     let _refused = pool.add(Counting(open.clone()).open());
     let gets = futures_util::future::join_all((0..3).map(|_| pool.get()));
@@ -144,7 +144,7 @@ fn nothing_is_lost_whichever_request_is_refused() {
                 .connection_timeout(Duration::from_secs(1))
                 .build_unchecked(Counting(open.clone()));
             tokio::task::yield_now().await;
-            // What is refused is refused in the polls of this one task and of the openings.
+            // Memory is refused in the polls of this one task and of the connection attempts.
             let _used = granting(requests, || use_of(&pool, &open).now_or_never());
             use_of(&pool, &open).await;
             tokio::time::sleep(Duration::from_secs(5)).await;
@@ -173,7 +173,7 @@ async fn the_replay_follows_a_pool_with_two_checked_out() {
 
 #[tokio::test(start_paused = true)]
 #[should_panic(expected = "Event { at: ")]
-async fn the_judge_sees_a_wrong_answer() {
+async fn the_replay_refuses_a_wrong_result() {
     let open = Arc::new(AtomicU32::new(0));
     let pool = Pool::builder().build(Counting(open)).await.unwrap();
     drop(pool.get().await.unwrap());

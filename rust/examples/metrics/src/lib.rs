@@ -85,7 +85,7 @@ pub fn page(pools: &[(&str, State)]) -> String {
     page
 }
 
-/// Serves a page at `/metrics`, made anew for each request. Returns only if it cannot accept.
+/// Serves a page at `/metrics`, generated for each request. Returns only if it cannot accept.
 pub async fn serve(
     listener: TcpListener,
     page: impl Fn() -> String + Send + Sync + 'static,
@@ -102,7 +102,7 @@ pub async fn serve(
     }
 }
 
-/// Answers one request of at most 8 KiB.
+/// Responds to one request of at most 8 KiB.
 async fn answer(mut stream: TcpStream, page: impl Fn() -> String) -> io::Result<()> {
     let (reader, mut writer) = stream.split();
     let mut lines = BufReader::new(reader.take(8192)).lines();

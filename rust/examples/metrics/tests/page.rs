@@ -23,7 +23,7 @@ enum Health {
     Hanging,
 }
 
-/// So many attempts fail next; and whether attempts hang.
+/// This many attempts fail next; and whether attempts hang.
 #[derive(Default)]
 struct Faults {
     failures: AtomicU32,
@@ -60,7 +60,7 @@ impl ManageConnection for Manager {
     }
 }
 
-/// Gets a connection and returns it in some health, so many times.
+/// Gets a connection and returns it in some health, this many times.
 async fn spoil(pool: &Pool<Manager>, times: u32, health: Health) {
     for _ in 0..times {
         *pool.get().await.unwrap() = health;
@@ -131,7 +131,7 @@ async fn busy_pool() -> Pool<Manager> {
     pool
 }
 
-/// What it counts, by hand. All other values are those of an integer.
+/// The expected counts, worked out by hand. All other values are those of an integer.
 const BUSY: [(&str, u64); 20] = [
     ("bb8_connections", 1),
     ("bb8_idle_connections", 0),
@@ -194,7 +194,7 @@ fn unquote(text: &str) -> (String, &str) {
             '\\' => value.push(match chars.next().unwrap() {
                 'n' => '\n',
                 escaped @ ('\\' | '"') => escaped,
-                other => panic!("an escape \\{other}"),
+                other => panic!("unknown escape \\{other}"),
             }),
             other => value.push(other),
         }

@@ -1,4 +1,4 @@
-//! What the programs of this package have in common.
+//! Helpers of the programs of this package.
 
 use bb8::Pool;
 use postgres_manager::{Database, Log};

@@ -29,7 +29,7 @@ const LIFETIME: Duration = Duration::from_millis(700);
 /// How late the machine may run a task whose time has come.
 const SLACK: Duration = Duration::from_millis(400);
 
-/// What the tasks did, and what was seen of the server.
+/// The counts of the tasks, and those of the server.
 #[derive(Default)]
 struct Seen {
     committed: Mutex<BTreeSet<i64>>,
@@ -71,7 +71,7 @@ impl ErrorSink<Error> for Sink {
     }
 }
 
-/// One transaction. True where it is committed; an error leaves it in doubt where it was to be.
+/// Makes one transaction. After an error at its commit it stays in doubt.
 async fn transact(conn: &mut Connection, id: i64, seen: &Seen) -> Result<(), Error> {
     conn.in_transaction = true;
     conn.client.batch_execute("BEGIN").await?;
@@ -85,7 +85,7 @@ async fn transact(conn: &mut Connection, id: i64, seen: &Seen) -> Result<(), Err
     Ok(())
 }
 
-/// Gets a connection, and notes what came of it. Every 50th get is let go after a millisecond.
+/// Gets a connection, and counts the result. Every 50th get is cancelled after a millisecond.
 async fn get<'a>(
     pool: &'a Pool<Database>,
     attempt: u64,
@@ -106,13 +106,13 @@ async fn get<'a>(
         None => &seen.let_go,
         Some(Ok(_)) => &seen.served,
         Some(Err(RunError::TimedOut)) => &seen.timed_out,
-        Some(Err(error)) => panic!("a get is answered {error}"),
+        Some(Err(error)) => panic!("get failed: {error}"),
     };
     count.fetch_add(1, SeqCst);
     answer?.ok()
 }
 
-/// What one task does until there are transactions enough.
+/// The work of one task, until there are enough transactions.
 async fn work(pool: Pool<Database>, seen: Arc<Seen>) {
     loop {
         if seen.committed.lock().unwrap().len() as u64 >= TRANSACTIONS {
@@ -198,8 +198,8 @@ async fn disturb(restart: String, seen: Arc<Seen>) {
     }
 }
 
-/// What else comes by chance happens once for certain: while nobody asks, ages run out; when all
-/// connections are taken, a get is let go, and one times out.
+/// Makes rare events happen at least once: while nobody asks, ages run out; when all
+/// connections are taken, a get is cancelled, and one times out.
 async fn exhaust(pool: &Pool<Database>, seen: &Seen) {
     sleep(LIFETIME + PATIENCE).await;
     let mut taken = Vec::new();
@@ -264,7 +264,7 @@ async fn main() -> Result<ExitCode, Box<dyn std::error::Error>> {
     judge(&pool, &admin, &seen, &log, took).await
 }
 
-/// Compares what was seen, and tells it.
+/// Compares the counts, and prints them.
 async fn judge(
     pool: &Pool<Database>,
     admin: &Config,
@@ -383,7 +383,7 @@ fn is_within(seen: &Seen) -> bool {
     }
 }
 
-/// Whether gets timed out and were let go, and connections ended in each way.
+/// Returns whether gets timed out and were cancelled, and connections ended in each way.
 fn all_happened(seen: &Seen, figures: &bb8::Statistics) -> bool {
     let counts = [
         seen.timed_out.load(SeqCst),

@@ -7,7 +7,7 @@ use std::sync::Arc;
 use tokio::io::{AsyncBufReadExt, AsyncReadExt, AsyncWriteExt, BufReader};
 use tokio::net::TcpStream;
 
-/// What the server answers: a text, or its own error.
+/// The server's reply: a text, or its own error.
 pub type Answer = Result<String, String>;
 
 /// A connection to a server.
@@ -17,7 +17,7 @@ pub struct Client {
     log: Arc<Log>,
     /// Whether `Log::opened` counts it.
     pub(crate) is_counted: bool,
-    /// Whether an answer is still to be read. The next request would be given it.
+    /// Whether a reply is still to be read. The next request would get it.
     asked: bool,
 }
 
@@ -56,7 +56,7 @@ impl Client {
         Ok(client)
     }
 
-    /// Sends a request and reads its answer. Where this is let go half-way, or fails, the
+    /// Sends a request and reads its reply. If this is cancelled half-way, or fails, the
     /// connection stays broken.
     pub async fn ask(&mut self, words: &[&str]) -> io::Result<Answer> {
         let mut request = format!("*{}\r\n", words.len());
@@ -70,7 +70,7 @@ impl Client {
         Ok(answer)
     }
 
-    /// Whether an answer is still to be read.
+    /// Returns whether a reply is still to be read.
     pub fn is_broken(&self) -> bool {
         self.asked
     }
@@ -91,7 +91,7 @@ impl Client {
         }
     }
 
-    /// A text whose length the server tells.
+    /// Reads a text of the length that the server has sent.
     async fn bulk(&mut self, length: &str) -> io::Result<String> {
         let length: usize = length.parse().map_err(|_| ErrorKind::InvalidData)?;
         let mut bytes = vec![0; length + 2];

@@ -11,7 +11,7 @@ use std::sync::{Arc, Mutex};
 use std::time::Duration;
 use tokio::time::sleep;
 
-/// What happened to connections, counted without the pool.
+/// The events of connections, counted without the pool.
 #[derive(Default)]
 pub struct Log {
     attempts: AtomicU64,

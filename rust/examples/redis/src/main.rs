@@ -1,6 +1,6 @@
 //! A service over Redis: tasks ask a server over the few connections of a pool, while connections
 //! are ended, the server is killed and started anew, and requests are cut off half-way. Afterwards
-//! the answers, the server's view, the tasks' own counts and the pool's figures are compared.
+//! the replies, the server's view, the tasks' own counts and the pool's statistics are compared.
 //!
 //! Arguments: the server's address, and the command that kills it and starts it anew.
 
@@ -22,7 +22,7 @@ const PATIENCE: Duration = Duration::from_millis(500);
 /// How late the machine may run a task whose time has come.
 const SLACK: Duration = Duration::from_secs(3);
 
-/// What the tasks did, and what was seen of the server.
+/// The counts of the tasks, and those of the server.
 #[derive(Default)]
 struct Seen {
     started: AtomicU64,
@@ -51,7 +51,7 @@ async fn echo(pool: &Pool<Server>, word: &str, seen: &Seen) {
             seen.timed_out.fetch_add(1, SeqCst);
             return;
         }
-        Err(error) => panic!("a get is answered {error}"),
+        Err(error) => panic!("get failed: {error}"),
     };
     seen.served.fetch_add(1, SeqCst);
     match conn.ask(&["ECHO", word]).await {
@@ -67,7 +67,7 @@ async fn echo(pool: &Pool<Server>, word: &str, seen: &Seen) {
     }
 }
 
-/// What one task does until all is done. Every 25th request is cut off after at most 0.7 ms.
+/// The work of one task, until the run ends. Every 25th request is cut off after at most 0.7 ms.
 async fn work(task: u64, pool: Pool<Server>, seen: Arc<Seen>) {
     let mut round = 0;
     while !seen.done.load(SeqCst) {
@@ -110,7 +110,7 @@ async fn look(server: &str, log: &Arc<Log>, round: u64, seen: &Seen) -> io::Resu
 async fn disturb(server: &str, restart: &str, log: &Arc<Log>, seen: &Seen) -> io::Result<()> {
     for round in 0..40 {
         sleep(Duration::from_millis(100)).await;
-        // (a look fails where the server is not there yet)
+        // It fails if the server is not up yet.
         let _failed = look(server, log, round, seen).await;
         if round == 12 || round == 25 {
             let status = Command::new("sh").args(["-c", restart]).status().await?;
@@ -153,7 +153,7 @@ async fn main() -> Result<ExitCode, Box<dyn std::error::Error>> {
     Ok(judge(&seen, &pool.state().statistics, is_balanced))
 }
 
-/// Compares what was seen, and tells it.
+/// Compares the counts, and prints them.
 fn judge(seen: &Seen, figures: &Statistics, is_balanced: bool) -> ExitCode {
     let read = |count: &AtomicU64| count.load(SeqCst);
     let told = [

@@ -94,7 +94,7 @@ pub fn transfer(conn: &mut Connection, source: u64, target: u64, amount: i64) ->
     transaction.commit()
 }
 
-/// What the tables say after a run.
+/// The sums of the tables after a run.
 pub struct Sums {
     /// All balances together.
     pub total: i64,

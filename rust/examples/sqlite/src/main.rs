@@ -41,7 +41,7 @@ impl ErrorSink<rusqlite::Error> for PrintingSink {
     }
 }
 
-/// What a task did.
+/// The results of a task.
 #[derive(Default)]
 struct Done {
     latencies: Vec<Duration>,
@@ -116,7 +116,7 @@ async fn show(pool: &Pool<Database>, begin: Instant, end: Instant) {
     eprint!("\r\x1b[K");
 }
 
-/// Runs all tasks for so long.
+/// Runs all tasks for this long.
 async fn run(pool: &Pool<Database>, time: Duration) -> Result<Vec<Done>, JoinError> {
     let begin = Instant::now();
     let end = begin + time;
@@ -210,7 +210,7 @@ fn seconds() -> Result<u64, Failure> {
     }
 }
 
-/// Runs the service. Whether all was right.
+/// Runs the service. Returns whether all was right.
 async fn serve() -> Result<bool, Failure> {
     let time = Duration::from_secs(seconds()?);
     let folder = env::temp_dir().join(format!("sqlite-service-{}", process::id()));

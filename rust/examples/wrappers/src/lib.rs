@@ -1,5 +1,5 @@
-//! What the pool does not have, built in the application: leak detection, keep-alive, and a change
-//! of size. Copy what you need.
+//! Features that the pool does not have, built in the application: leak detection, keep-alive, and
+//! a change of size. Copy what you need.
 
 use bb8::{ManageConnection, Pool, PooledConnection, RunError};
 use std::future::Future;
@@ -63,7 +63,7 @@ impl<M: ManageConnection> DerefMut for Watched<'_, M> {
 /// has been idle longest, and checks it. Spawn this, and abort it at shutdown, as it keeps the pool
 /// alive. The pool has to have `test_on_check_out` and the order `Fifo`, which are the defaults.
 ///
-/// A checked connection starts to be idle anew, so `idle_timeout` has no effect if it is longer
+/// A checked connection's idle time starts again, so `idle_timeout` has no effect if it is longer
 /// than the interval.
 pub async fn keep_alive<M: ManageConnection>(pool: Pool<M>, interval: Duration) {
     loop {

@@ -5,11 +5,11 @@ use Rattle.bb8_core.proofs.handing.checked_err.Goals as goal
 
 pub try_of-tried-requires : goal.try_of-tried-requires
 try_of-tried-requires g c =
-    fits_told c.args.at.0 (CheckedErr c.args.get.number c.args.broken) (answer_of_checked_err c.in-Ok.told) c.notified.result c.checked_err.ensures.limits.0 c.in-Ok.ensures.step.0 c.notified.ensures
+    fits_told c.args.at.0 (CheckedErr c.args.get.number c.args.broken) (answer_of_checked_err c.in-Ok.outcome) c.notified.result c.in-Ok.ensures.step.0 c.notified.ensures
 
 pub returns-in-Ok-clause-step : goal.returns-in-Ok-clause-step
 returns-in-Ok-clause-step g c = (
-  hands_over c.try_of-tried.new.pool c.args.at.0 (CheckedErr c.args.get.number c.args.broken) (answer_of_checked_err c.in-Ok.told) c.notified.result c.try_of-tried.result
+  hands_over c.try_of-tried.new.pool c.args.at.0 (CheckedErr c.args.get.number c.args.broken) (answer_of_checked_err c.in-Ok.outcome) c.notified.result c.try_of-tried.result
       c.in-Ok.ensures.step.0 c.notified.ensures c.try_of-tried.ensures.follows,
   tt,
 )
@@ -20,5 +20,5 @@ returns-in-Ok-clause-order g c = stays_prompt _ _ c.try_of-tried.result c.args.a
 pub returns-in-Err-clause-order : goal.returns-in-Err-clause-order
 returns-in-Err-clause-order g c = stays_prompt _ _ None c.args.at.0 (CheckedErr c.args.get.number c.args.broken) Unfit (c.in-Err.ensures.step.0, refl)
 
-pub returns-in-Ok-clause-examined : goal.returns-in-Ok-clause-examined
-returns-in-Ok-clause-examined g c = (_, c.in-Ok.ensures.examined, c.in-Ok.ensures.searched, c.try_of-tried.ensures.few)
+pub returns-in-Ok-clause-bounds : goal.returns-in-Ok-clause-bounds
+returns-in-Ok-clause-bounds g c = (_, c.in-Ok.ensures.bounds, c.try_of-tried.ensures.few)

@@ -1,4 +1,4 @@
--- Each row computes: its configuration is lawful, its answers are allowed, and these are the
+-- Each row computes: its configuration is lawful, its results are allowed, and these are the
 -- figures at its end.
 use Rattle.std.proofs.Common.{refl, arith}
 use Rattle.bb8_ledger.proofs.Evaluated.{by_evaluation, waits_by_evaluation}
@@ -18,11 +18,13 @@ returns c = record {
   newest_first = by_evaluation refl refl refl;
   detached_once = by_evaluation refl refl refl;
   detached_and_made_good = by_evaluation refl refl refl;
+  evicted_and_made_good = by_evaluation refl refl refl;
+  evicted_from_waiter = by_evaluation refl refl refl;
   retired_at_one = by_evaluation refl refl refl;
   retired_while_opening = by_evaluation refl refl refl;
   retired_and_made_good = by_evaluation refl refl refl;
   asked_anew = by_evaluation refl refl refl;
-  asked_for_told = by_evaluation refl refl refl;
+  asked_for_notified = by_evaluation refl refl refl;
   asked_up_to_the_size = by_evaluation refl refl refl;
   shut_once = by_evaluation refl refl refl;
   shut_with_waiters = by_evaluation refl refl refl;

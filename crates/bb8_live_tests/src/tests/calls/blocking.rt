@@ -1,7 +1,7 @@
 //! Gets in one call, and gets that are served at their first poll, with and without the check.
 
 use super::{TellerPool, Tools};
-use bb8::{Gets, Memory, PoolCalls, PoolParts, Runtime};
+use bb8::{Gets, Memory, PoolCalls, PoolPermits, Runtime};
 use std::process::Abort;
 use std::time::Duration;
 
@@ -36,7 +36,7 @@ impl<R: Runtime + Abort> Tools<'_, R> {
 /// since the first get of a pool takes another path; and each get that waits until it times out. A
 /// clock reading advances the clock by 60 nanoseconds, so 100 have passed at the second poll, and
 /// 200 at the third. At the end there is no connection, and one approval is open.
-pub(super) fn served<R: Runtime + Abort, L: PoolParts>(
+pub(super) fn served<R: Runtime + Abort, L: PoolPermits>(
     tools: &Tools<'_, R>,
     pool: &TellerPool<R, L>,
 ) -> Result<(), Memory> {
@@ -68,7 +68,7 @@ pub(super) fn served<R: Runtime + Abort, L: PoolParts>(
 /// Makes gets in one call whose check is pending once; one that never waits, with a check that
 /// stays pending; and one that, after its check has failed, waits until it times out. At the end
 /// there is no connection, and one approval is open.
-pub(super) fn unserved<R: Runtime + Abort, L: PoolParts>(
+pub(super) fn unserved<R: Runtime + Abort, L: PoolPermits>(
     tools: &Tools<'_, R>,
     pool: &TellerPool<R, L>,
 ) -> Result<(), Memory> {

@@ -1,12 +1,12 @@
 //! The calls of a retire.
 use super::super::assert_equal;
 use super::{TellerPool, Tools};
-use bb8::{Gets, Memory, PoolCalls, PoolParts, Runtime};
+use bb8::{Gets, Memory, PoolCalls, PoolPermits, Runtime};
 use std::process::Abort;
 
 /// All connections are retired: two idle ones are dropped at once, and one that is checked out when
 /// it is returned.
-pub(super) fn retired<R: Runtime + Abort, L: PoolParts>(
+pub(super) fn retired<R: Runtime + Abort, L: PoolPermits>(
     tools: &Tools<'_, R>,
     pool: &TellerPool<R, L>,
 ) -> Result<(), Memory> {

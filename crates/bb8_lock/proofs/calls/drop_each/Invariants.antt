@@ -1,5 +1,5 @@
 use Rattle.std.proofs.Common.{length}
-use Rattle.bb8_lock.specs.Chains.{DropsEach}
+use Rattle.bb8_lock.specs.Traces.{DropsEach}
 use Rattle.bb8_lock.proofs.calls.drop_each.Given as goal
 
 abbrev pub invariant-loop-closed : goal.invariant-loop-closed

@@ -1,8 +1,8 @@
 use Rattle.bb8_runner.proofs.Speech.{ℕ, List, map, subst, ap, ◌∙◌, figures_of, Event, Spells, output_of, settings_of, IsRun, opening}
 use Rattle.bb8_runner.proofs.script.answer.Goals as goal
 
-pub returns-in-Ok-clause-told : goal.returns-in-Ok-clause-told
-returns-in-Ok-clause-told c =
+pub returns-in-Ok-clause-reported : goal.returns-in-Ok-clause-reported
+returns-in-Ok-clause-reported c =
     let script = c.in-Ok.script in
     let answers = c.in_ok-answers-in-Ok.answers.items in
     let ran = c.in_ok-answers-in-Ok.ensures.run in
@@ -15,6 +15,6 @@ returns-in-Ok-clause-told c =
         answers = answers;
         last = ran.0;
         allowed = subst Q c.as_slice-in-Ok.ensures.value ran.1;
-        told = c.in_ok-text-in-Ok.ensures ∙ ap (λ given. output_of given (figures_of c.state.result)) c.as_slice-in-Ok-2.ensures.value ∙ ap (output_of answers) (c.state.ensures.figures ran.0 ran.2);
+        reported = c.in_ok-text-in-Ok.ensures ∙ ap (λ given. output_of given (figures_of c.state.result)) c.as_slice-in-Ok-2.ensures.value ∙ ap (output_of answers) (c.state.ensures.figures ran.0 ran.2);
       },
     )

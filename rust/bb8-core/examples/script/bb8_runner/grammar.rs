@@ -27,7 +27,7 @@ pub fn small_number(field: &str) -> Option<u32> {
 }
 
 /// Parses the verbs without argument.
-fn plain_act(verb: &str) -> Option<Act> {
+pub(crate) fn plain_act(verb: &str) -> Option<Act> {
     match verb {
         "begin" => Some(Act::Begin),
         "fill" => Some(Act::Fill(false)),
@@ -55,7 +55,7 @@ fn worded_act(verb: &str, word: &str) -> Option<Act> {
 }
 
 /// Parses the verbs with a number after them.
-fn numbered_act(verb: &str, n: u64) -> Option<Act> {
+pub(crate) fn numbered_act(verb: &str, n: u64) -> Option<Act> {
     match verb {
         "try" => Some(Act::Try(n)),
         "ok" => Some(Act::CheckedOk(n)),
@@ -64,6 +64,7 @@ fn numbered_act(verb: &str, n: u64) -> Option<Act> {
         "cancel" => Some(Act::GiveUp(n, Reason::Cancelled, false)),
         "return" => Some(Act::PutBack(n, false)),
         "detach" => Some(Act::Detach(n)),
+        "evict" => Some(Act::Evict(n)),
         "open" => Some(Act::Opened(n)),
         "fail" => Some(Act::Failed(n)),
         _ => None,

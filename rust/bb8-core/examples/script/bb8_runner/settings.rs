@@ -45,7 +45,7 @@ fn once<T: Copy>(old: Option<T>, new: Option<T>) -> Option<Option<T>> {
 
 /// Adds a setting. Returns None if there is no such setting, it is set already, or its value is not
 /// allowed.
-fn with_setting(overrides: Overrides, name: &str, value: &str) -> Option<Overrides> {
+pub fn with_setting(overrides: Overrides, name: &str, value: &str) -> Option<Overrides> {
     let mut o = overrides;
     match name {
         "max_size" => o.max_size = once(o.max_size, small_number(value))?,
@@ -64,12 +64,13 @@ fn with_setting(overrides: Overrides, name: &str, value: &str) -> Option<Overrid
 }
 
 /// Returns a setting's name and value, which its first `=` separates.
-fn cut(field: &str) -> Option<(&str, &str)> {
+pub fn cut(field: &str) -> Option<(&str, &str)> {
     field.split_once('=')
 }
 
-fn overrides_of(fields: &[&str]) -> Option<Overrides> {
-    let mut overrides = Overrides {
+/// Returns no settings.
+pub fn nothing_set() -> Overrides {
+    Overrides {
         max_size: None,
         min_idle: None,
         check: None,
@@ -80,7 +81,11 @@ fn overrides_of(fields: &[&str]) -> Option<Overrides> {
         reaper: None,
         retry: None,
         strategy: None,
-    };
+    }
+}
+
+fn overrides_of(fields: &[&str]) -> Option<Overrides> {
+    let mut overrides = nothing_set();
     for field in fields {
         let (name, value) = cut(field)?;
         overrides = with_setting(overrides, name, value)?;
@@ -113,7 +118,7 @@ fn span_or(set: Option<u64>, default: Duration) -> Duration {
 }
 
 /// Returns the configuration with defaults for what is not set.
-fn config_from(overrides: Overrides) -> Config {
+pub fn config_from(overrides: Overrides) -> Config {
     let config = Config::default();
     Config {
         max_size: overrides.max_size.unwrap_or(config.max_size),

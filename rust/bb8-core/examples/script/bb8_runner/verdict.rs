@@ -1,6 +1,6 @@
 //! The outcome of a script.
 
-/// What was written.
+/// The output of a run.
 #[derive(Clone, Copy, Debug, PartialEq, Eq)]
 pub enum Verdict {
     /// The results of a run, and the final state.

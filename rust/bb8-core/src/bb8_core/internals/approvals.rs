@@ -2,16 +2,15 @@
 
 use super::decided::{due_asked, want};
 use super::{ClaimAnswer, Grant, PoolInternals};
-use crate::bb8_tables::Lendings;
+use crate::bb8_tables::AccessCounter;
 use crate::bb8_types::api::Moment;
 
 impl<C, A> PoolInternals<C, A> {
     /// Grants what is wanted: `min_idle` minus idle connections and open approvals. The approvals
     /// are claimed at once if `claimed` is set.
     pub fn fill(&mut self, at: Moment, claimed: bool) -> Grant {
-        self.limits();
         self.latest = self.latest.max(at.0);
-        self.lendings.end(Lendings::none());
+        self.accesses.end(AccessCounter::none());
         let wanted = want(&self.config, self.handles, &self.records);
         self.records.grant(wanted, claimed)
     }
@@ -20,9 +19,8 @@ impl<C, A> PoolInternals<C, A> {
     /// This is for waiters whose connection attempts were given up: none of them asks again by
     /// itself.
     pub fn ask(&mut self, at: Moment) -> Grant {
-        self.limits();
         self.latest = self.latest.max(at.0);
-        self.lendings.end(Lendings::none());
+        self.accesses.end(AccessCounter::none());
         let waiting = self.gets.unnotified();
         let due = due_asked(&self.config, self.handles, &self.records, waiting);
         self.records.grant(due, false)
@@ -30,15 +28,14 @@ impl<C, A> PoolInternals<C, A> {
 
     /// Claims the unclaimed approval with the lowest number.
     pub fn claim(&mut self, at: Moment) -> ClaimAnswer {
-        self.limits();
         self.latest = self.latest.max(at.0);
-        let mut lendings = Lendings::none();
+        let mut accesses = AccessCounter::none();
         if self.handles == 0 {
-            self.lendings.end(lendings);
+            self.accesses.end(accesses);
             return ClaimAnswer::Ended;
         }
-        let claimed = self.records.claim(&mut lendings);
-        self.lendings.end(lendings);
+        let claimed = self.records.claim(&mut accesses);
+        self.accesses.end(accesses);
         ClaimAnswer::Claimed(claimed)
     }
 }

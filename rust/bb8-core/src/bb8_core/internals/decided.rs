@@ -1,6 +1,6 @@
 //! Decisions and changes that several steps share.
 
-use crate::bb8_tables::Lendings;
+use crate::bb8_tables::AccessCounter;
 use crate::bb8_tables::gets::Gets;
 use crate::bb8_tables::keys::{GetKey, Key};
 use crate::bb8_tables::records::{Records, one};
@@ -66,7 +66,7 @@ pub(super) fn due_asked<C>(
 }
 
 /// Returns the greatest age, in nanoseconds, that does not reach a limit.
-pub(super) fn greatest_age(limit: Option<Duration>) -> u64 {
+pub(super) fn max_age(limit: Option<Duration>) -> u64 {
     match limit {
         None => u64::MAX,
         Some(limit) => (limit.as_nanos() - 1).min(u64::MAX as u128) as u64,
@@ -96,8 +96,12 @@ pub(super) fn is_expired(config: &Config, now: u64, birth: u64) -> bool {
 
 /// Notifies the longest waiter that was not notified, if the test passes.
 #[inline]
-pub(super) fn notify_next_if(gets: &mut Gets, test: bool, lendings: &mut Lendings) -> Option<GetKey> {
-    if test { gets.notify(lendings) } else { None }
+pub(super) fn notify_next_if(
+    gets: &mut Gets,
+    test: bool,
+    accesses: &mut AccessCounter,
+) -> Option<GetKey> {
+    if test { gets.notify(accesses) } else { None }
 }
 
 /// Returns whether the first idle connection must be checked before a get is served with it. Reads
@@ -107,7 +111,7 @@ pub(super) fn checks_first<C>(
     config: &Config,
     records: &Records<C>,
     now: u64,
-    lendings: &mut Lendings,
+    accesses: &mut AccessCounter,
 ) -> bool {
     if !config.test_on_check_out {
         return false;
@@ -115,7 +119,7 @@ pub(super) fn checks_first<C>(
     if config.test_after.is_zero() {
         return true;
     }
-    match records.first_entered(config.queue_strategy, lendings) {
+    match records.first_entered(config.queue_strategy, accesses) {
         // None is idle, so nothing goes out.
         None => true,
         Some(entered) => config.test_after.as_nanos() <= now.saturating_sub(entered) as u128,
@@ -145,9 +149,9 @@ pub(super) fn close_and_grant<C>(
     handles: u64,
     records: &mut Records<C>,
     k: Key,
-    lendings: &mut Lendings,
+    accesses: &mut AccessCounter,
 ) -> Grant {
-    records.close(k, lendings);
+    records.close(k, accesses);
     let wanted = want(config, handles, records);
     records.grant(wanted, false)
 }

@@ -1,15 +1,14 @@
 //! The statistics of a pool, and its handles.
 
 use super::{ClosedList, JoinAnswer, LeaveAnswer, Looked, PoolInternals, Unfit};
-use crate::bb8_tables::Lendings;
+use crate::bb8_tables::AccessCounter;
 use crate::bb8_types::api::{Moment, State};
 
 impl<C, A> PoolInternals<C, A> {
     /// Returns the size and the statistics of the pool.
     pub fn state(&mut self, at: Moment) -> State {
-        self.limits();
         self.latest = self.latest.max(at.0);
-        self.lendings.end(Lendings::none());
+        self.accesses.end(AccessCounter::none());
         State {
             connections: self.records.connections(),
             idle_connections: self.records.idle_connections(),
@@ -19,13 +18,12 @@ impl<C, A> PoolInternals<C, A> {
 
     /// Adds a handle, if fewer than 4,294,967,295 are alive. If none is, nothing changes.
     pub fn join(&mut self, at: Moment) -> Result<JoinAnswer, Unfit> {
-        self.limits();
         if !self.fits_join() {
-            self.lendings.end_unfit(Lendings::none());
+            self.accesses.end_unfit(AccessCounter::none());
             return Err(Unfit);
         }
         self.latest = self.latest.max(at.0);
-        self.lendings.end(Lendings::none());
+        self.accesses.end(AccessCounter::none());
         if self.handles >= u32::MAX as u64 {
             return Ok(JoinAnswer::Exhausted);
         }
@@ -36,9 +34,8 @@ impl<C, A> PoolInternals<C, A> {
     /// Drops a handle. With the last one all idle connections and all unclaimed approvals end; the
     /// connections are dropped here. If no handle is alive, nothing changes.
     pub fn leave(&mut self, at: Moment) -> Result<LeaveAnswer, Unfit> {
-        self.limits();
         if !self.fits_leave() {
-            self.lendings.end_unfit(Lendings::none());
+            self.accesses.end_unfit(AccessCounter::none());
             return Err(Unfit);
         }
         let mut dropped = self.records.no_list();
@@ -46,10 +43,10 @@ impl<C, A> PoolInternals<C, A> {
     }
 
     /// As `leave`, but moves the connections that it closes into a list, the longest idle first.
-    /// Those for which the list has no room are dropped.
+    /// Those for which the list has no capacity are dropped.
     pub fn leave_into(&mut self, at: Moment, closed: &mut ClosedList<C>) -> LeaveAnswer {
         self.latest = self.latest.max(at.0);
-        self.lendings.end(Lendings::none());
+        self.accesses.end(AccessCounter::none());
         if self.handles == 1 {
             self.handles = 0;
             self.closed_below = u64::MAX;
@@ -63,9 +60,8 @@ impl<C, A> PoolInternals<C, A> {
     /// end, as with the last handle; the connections are dropped here. If no handle is alive,
     /// nothing changes.
     pub fn close(&mut self, at: Moment) -> Result<LeaveAnswer, Unfit> {
-        self.limits();
         if !self.fits_close() {
-            self.lendings.end_unfit(Lendings::none());
+            self.accesses.end_unfit(AccessCounter::none());
             return Err(Unfit);
         }
         let mut dropped = self.records.no_list();
@@ -73,10 +69,10 @@ impl<C, A> PoolInternals<C, A> {
     }
 
     /// As `close`, but moves the connections that it closes into a list, the longest idle first.
-    /// Those for which the list has no room are dropped.
+    /// Those for which the list has no capacity are dropped.
     pub fn close_into(&mut self, at: Moment, closed: &mut ClosedList<C>) -> LeaveAnswer {
         self.latest = self.latest.max(at.0);
-        self.lendings.end(Lendings::none());
+        self.accesses.end(AccessCounter::none());
         self.handles = 0;
         self.closed_below = u64::MAX;
         LeaveAnswer::Left(self.records.leave(closed))
@@ -84,9 +80,8 @@ impl<C, A> PoolInternals<C, A> {
 
     /// Returns the effective moment, and whether a handle is alive.
     pub fn look(&mut self, at: Moment) -> Looked {
-        self.limits();
         self.latest = self.latest.max(at.0);
-        self.lendings.end(Lendings::none());
+        self.accesses.end(AccessCounter::none());
         Looked {
             moment: Moment(self.latest),
             alive: self.handles > 0,

@@ -2,7 +2,7 @@
 //! count in a counter of their own, which is discarded.
 
 use super::{GetKey, Key, PoolInternals};
-use crate::bb8_tables::Lendings;
+use crate::bb8_tables::AccessCounter;
 use crate::bb8_tables::gets::{held, is_trying};
 use crate::bb8_types::standing::Getting;
 
@@ -16,12 +16,12 @@ impl<C, A> PoolInternals<C, A> {
 
     /// Returns how many table entries the latest step read or changed.
     pub fn examined(&self) -> u64 {
-        self.lendings.lent()
+        self.accesses.reads()
     }
 
     /// Returns how often the latest step searched a table, because a key had a stale hint.
     pub fn searched(&self) -> u64 {
-        self.lendings.searched()
+        self.accesses.searched()
     }
 
     /// Returns the number of the next connection or approval.
@@ -67,9 +67,9 @@ impl<C, A> PoolInternals<C, A> {
 impl<C> PoolInternals<C> {
     /// Returns the state of a get, None if it is not alive.
     fn getting(&self, get: GetKey) -> Option<Getting> {
-        let mut lendings = Lendings::none();
-        let getting = self.gets.getting(get, &mut lendings);
-        self.asking.forget(lendings);
+        let mut accesses = AccessCounter::none();
+        let getting = self.gets.getting(get, &mut accesses);
+        self.asking.forget(accesses);
         getting
     }
 
@@ -95,33 +95,41 @@ impl<C> PoolInternals<C> {
 
     /// Returns whether a guard holds the connection.
     pub(crate) fn is_guarded(&self, k: Key) -> bool {
-        let mut lendings = Lendings::none();
-        let is_guarded = self.records.is_guarded(k, &mut lendings);
-        self.asking.forget(lendings);
+        let mut accesses = AccessCounter::none();
+        let is_guarded = self.records.is_guarded(k, &mut accesses);
+        self.asking.forget(accesses);
         is_guarded
+    }
+
+    /// Returns whether the number is that of an idle connection, and so whether it may be evicted.
+    pub fn is_idle(&self, k: Key) -> bool {
+        let mut accesses = AccessCounter::none();
+        let is_idle = self.records.is_idle(k, &mut accesses);
+        self.asking.forget(accesses);
+        is_idle
     }
 
     /// Returns whether the number is that of a claimed approval.
     pub(crate) fn is_claimed(&self, k: Key) -> bool {
-        let mut lendings = Lendings::none();
-        let is_claimed = self.records.is_claimed(k, &mut lendings);
-        self.asking.forget(lendings);
+        let mut accesses = AccessCounter::none();
+        let is_claimed = self.records.is_claimed(k, &mut accesses);
+        self.asking.forget(accesses);
         is_claimed
     }
 
     /// Returns the key of a connection or approval, None if it has ended.
     pub fn find(&self, number: u64) -> Option<Key> {
-        let mut lendings = Lendings::none();
-        let found = self.records.find(number, &mut lendings);
-        self.asking.forget(lendings);
+        let mut accesses = AccessCounter::none();
+        let found = self.records.find(number, &mut accesses);
+        self.asking.forget(accesses);
         found
     }
 
     /// Returns the key of a get, None if it has ended.
     pub fn find_get(&self, number: u64) -> Option<GetKey> {
-        let mut lendings = Lendings::none();
-        let found = self.gets.find(number, &mut lendings);
-        self.asking.forget(lendings);
+        let mut accesses = AccessCounter::none();
+        let found = self.gets.find(number, &mut accesses);
+        self.asking.forget(accesses);
         found
     }
 

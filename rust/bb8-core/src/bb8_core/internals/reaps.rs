@@ -1,8 +1,8 @@
-//! The reap, and the retirement of everything that exists.
+//! The reap, the eviction of one idle connection, and the retirement of everything that exists.
 
 use super::decided::{retiring, want};
-use super::{ClosedList, PoolInternals, ReapAnswer};
-use crate::bb8_tables::Lendings;
+use super::{ClosedList, EvictAnswer, Key, PoolInternals, ReapAnswer, Unfit};
+use crate::bb8_tables::AccessCounter;
 use crate::bb8_types::api::Moment;
 
 impl<C, A> PoolInternals<C, A> {
@@ -16,6 +16,28 @@ impl<C, A> PoolInternals<C, A> {
         self.reap_into(at, &mut dropped)
     }
 
+    /// Evicts an idle connection, for the caller to drop. Its record ends, what is wanted is
+    /// granted, and the longest waiter is notified, as when a guard detaches it. If the number is
+    /// not that of an idle connection, nothing changes. It is looked up once.
+    pub fn evict(&mut self, at: Moment, k: Key) -> Result<EvictAnswer<C>, Unfit> {
+        let mut accesses = AccessCounter::none();
+        match self.records.evict(k, &mut accesses) {
+            None => {
+                self.accesses.end_unfit(accesses);
+                Err(Unfit)
+            }
+            Some(conn) => {
+                self.latest = self.latest.max(at.0);
+                let wanted = want(&self.config, self.handles, &self.records);
+                let grant = self.records.grant(wanted, false);
+                self.counters.detach();
+                let notified = self.gets.notify(&mut accesses);
+                self.accesses.end(accesses);
+                Ok(EvictAnswer::Evicted(conn, grant, notified))
+            }
+        }
+    }
+
     /// Retires all connections and approvals that have numbers now. Idle connections are closed,
     /// checked-out ones when they are returned, and those of attempts in progress when they are
     /// opened. No get is notified. The connections are dropped here. While no handle is alive, none
@@ -26,18 +48,17 @@ impl<C, A> PoolInternals<C, A> {
     }
 
     /// As `reap`, but moves the connections that it closes into a list, in the order in which it
-    /// closes them. Those for which the list has no room are dropped.
+    /// closes them. Those for which the list has no capacity are dropped.
     pub fn reap_into(&mut self, at: Moment, closed: &mut ClosedList<C>) -> ReapAnswer {
-        self.limits();
         let now = self.latest.max(at.0);
         self.latest = now;
-        let mut lendings = Lendings::none();
+        let mut accesses = AccessCounter::none();
         if self.handles == 0 {
-            self.lendings.end(lendings);
+            self.accesses.end(accesses);
             return ReapAnswer::Ended;
         }
-        let reaped = self.records.reap(&self.config, now, closed, &mut lendings);
-        self.lendings.end(lendings);
+        let reaped = self.records.reap(&self.config, now, closed, &mut accesses);
+        self.accesses.end(accesses);
         let wanted = want(&self.config, self.handles, &self.records);
         let grant = self.records.grant(wanted, false);
         self.counters.reap(reaped.by_idle, reaped.by_life);
@@ -51,20 +72,19 @@ impl<C, A> PoolInternals<C, A> {
 
     /// As `retire`, but moves the connections that it closes into a list, as `reap_into` does.
     pub fn retire_into(&mut self, at: Moment, closed: &mut ClosedList<C>) -> ReapAnswer {
-        self.limits();
         let now = self.latest.max(at.0);
         self.latest = now;
         self.retired = self.records.next_number();
-        let mut lendings = Lendings::none();
+        let mut accesses = AccessCounter::none();
         if self.handles == 0 {
-            self.lendings.end(lendings);
+            self.accesses.end(accesses);
             return ReapAnswer::Ended;
         }
         self.closed_below = self.retired;
         // A reap at which every idle connection has lived too long.
         let all = retiring(&self.config);
-        let reaped = self.records.reap(&all, now, closed, &mut lendings);
-        self.lendings.end(lendings);
+        let reaped = self.records.reap(&all, now, closed, &mut accesses);
+        self.accesses.end(accesses);
         let wanted = want(&self.config, self.handles, &self.records);
         let grant = self.records.grant(wanted, false);
         let count = reaped.closed;

@@ -21,6 +21,8 @@ pub enum Act {
     PutBack(u64, bool),
     /// The guard of the connection detaches it.
     Detach(u64),
+    /// The idle connection is evicted.
+    Evict(u64),
     /// Approvals are requested up to `min_idle`; whether they are claimed at once.
     Fill(bool),
     /// The approvals that waiters lack are granted.

@@ -1,11 +1,11 @@
 //! The reap of idle connections: one walk along the order of births, one along the queue of idle
 //! connections.
 
-use super::{Records, close_idle_at};
+use super::{Records, close_idle_at, is_idle};
 use crate::bb8_tables::closed::ClosedList;
-use crate::bb8_tables::table::{Lendings, Table};
+use crate::bb8_tables::table::{AccessCounter, Table};
 use crate::bb8_types::api::Config;
-use crate::bb8_types::standing::{Place, Standing};
+use crate::bb8_types::standing::Standing;
 use std::time::Duration;
 
 /// The result of a reap.
@@ -42,13 +42,6 @@ fn is_past(limit: Option<Duration>, span: u64) -> bool {
     }
 }
 
-fn is_idle<C>(place: &Place<C>) -> bool {
-    match place {
-        Place::Idle(_) => true,
-        Place::Unclaimed | Place::Claimed | Place::Held(_) | Place::Guarded => false,
-    }
-}
-
 /// Returns whether a record is idle, and for too long.
 fn idles_out<C>(config: &Config, now: u64, standing: &Standing<C>) -> bool {
     is_idle(&standing.place) && is_past(config.idle_timeout, now.saturating_sub(standing.entered))
@@ -65,9 +58,9 @@ fn pass_birth<C>(
     place: usize,
     config: &Config,
     now: u64,
-    lendings: &mut Lendings,
+    accesses: &mut AccessCounter,
 ) -> Age {
-    let (slot, next) = slots.pass(place, lendings);
+    let (slot, next) = slots.pass(place, accesses);
     let standing = &slot.standing;
     if !is_past(config.max_lifetime, now.saturating_sub(standing.birth)) {
         return Age::Young;
@@ -87,12 +80,12 @@ impl<C> Records<C> {
         config: &Config,
         now: u64,
         closed: &mut ClosedList<C>,
-        lendings: &mut Lendings,
+        accesses: &mut AccessCounter,
     ) -> bool {
         let Some(place) = self.slots.first() else {
             return false;
         };
-        let due = idles_out(config, now, &self.slots.at(place, lendings).standing);
+        let due = idles_out(config, now, &self.slots.at(place, accesses).standing);
         if !due {
             return false;
         }
@@ -109,7 +102,7 @@ impl<C> Records<C> {
         config: &Config,
         now: u64,
         closed: &mut ClosedList<C>,
-        lendings: &mut Lendings,
+        accesses: &mut AccessCounter,
     ) -> u32 {
         if config.idle_timeout.is_none() {
             return 0;
@@ -119,7 +112,7 @@ impl<C> Records<C> {
             .idle_connections()
             .saturating_sub(config.min_idle.unwrap_or(0));
         for ended in 0..many {
-            let more = self.reap_first(config, now, closed, lendings);
+            let more = self.reap_first(config, now, closed, accesses);
             if !more {
                 return ended;
             }
@@ -135,7 +128,7 @@ impl<C> Records<C> {
         config: &Config,
         now: u64,
         closed: &mut ClosedList<C>,
-        lendings: &mut Lendings,
+        accesses: &mut AccessCounter,
     ) -> u32 {
         let mut many = 0;
         if config.max_lifetime.is_none() {
@@ -144,7 +137,7 @@ impl<C> Records<C> {
         let mut at = self.slots.first_birth();
         for _ in 0..self.slots.births() {
             let Some(place) = at else { break };
-            match pass_birth(&self.slots, place, config, now, lendings) {
+            match pass_birth(&self.slots, place, config, now, accesses) {
                 Age::Young => break,
                 Age::Out(next) => at = next,
                 Age::Aged(next) => {
@@ -166,11 +159,11 @@ impl<C> Records<C> {
         config: &Config,
         now: u64,
         closed: &mut ClosedList<C>,
-        lendings: &mut Lendings,
+        accesses: &mut AccessCounter,
     ) -> Reaped {
         let _next = &self.next;
-        let by_life = self.reap_aged(config, now, closed, lendings);
-        let by_idle = self.reap_idle(config, now, closed, lendings);
+        let by_life = self.reap_aged(config, now, closed, accesses);
+        let by_idle = self.reap_idle(config, now, closed, accesses);
         Reaped {
             closed: by_life + by_idle,
             by_idle,

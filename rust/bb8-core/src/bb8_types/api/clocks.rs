@@ -14,7 +14,7 @@ pub trait Clock: Send + Sync + 'static {
     fn now(&self) -> Moment;
 }
 
-/// A clock that stands still until it is set, for tests and for programs with a time of their own.
+/// A clock that moves only when it is set, for tests and for programs with a time of their own.
 /// Copies made by `try_clone` share the moment, also between threads: each returns what was set
 /// last on any of them.
 pub struct SetClock {
@@ -22,7 +22,7 @@ pub struct SetClock {
 }
 
 impl SetClock {
-    /// Returns a clock that stands at this moment until it is set. Fails if memory is refused.
+    /// Returns a clock that shows this moment until it is set. Fails if memory is refused.
     pub fn new(alloc: Global, moment: Moment) -> Result<SetClock, Memory> {
         let nanoseconds = Arc::new(alloc, AtomicU64::new(moment.0))?;
         Ok(SetClock { nanoseconds })

@@ -12,11 +12,11 @@ use std::fmt::Debug;
 ///
 /// A poll runs in the thread that polls: a driver's for a connection attempt, the caller's for the
 /// check of a get. A poll that blocks delays everything else of that thread: the driver's other
-/// attempts and its reaper, or the get, past its deadline. So a poll returns pending where it would
-/// wait; or run more drivers, each in a thread of its own.
+/// attempts and its reaper, or the get, past its deadline. So a poll should return pending instead
+/// of waiting; or run more drivers, each in a thread of its own.
 ///
 /// Each method has a ghost member: a relation between its arguments and its result. The implementer
-/// chooses it; an omitted one allows everything. What is proved of a pool holds for every choice.
+/// chooses it; an omitted one allows everything. Proofs of a pool hold for every choice.
 pub trait ManageConnection: Sized + Send + Sync + 'static {
     /// The connection that the pool keeps and checks out. As in bb8.
     type Connection: Send + 'static;

@@ -1,6 +1,6 @@
 //! The receiver of errors that no caller waits for.
 
-/// Receives the errors that belong to no caller: those of opening and customizing connections in
+/// Receives the errors that belong to no caller: those of connection attempts and customizers in
 /// the background, and those of failed checks. Use it for a log or a count of failures. As in bb8,
 /// but a sink is a type parameter of the pool, so it needs neither `Debug` nor a method to copy it.
 pub trait ErrorSink<E>: Send + Sync + 'static {

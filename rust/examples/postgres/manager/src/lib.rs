@@ -6,7 +6,7 @@ use std::sync::atomic::{AtomicU64, Ordering::SeqCst};
 use std::sync::{Arc, Mutex};
 use tokio_postgres::{Client, Config, Error, NoTls, SimpleQueryMessage};
 
-/// What happened to connections, counted without the pool.
+/// The events of connections, counted without the pool.
 #[derive(Default)]
 pub struct Log {
     /// Connections that were opened.
@@ -20,7 +20,7 @@ pub struct Log {
 
 /// A connection to PostgreSQL. A task of its own moves its bytes, and ends with it.
 pub struct Connection {
-    /// What speaks to the server.
+    /// The client that speaks to the server.
     pub client: Client,
     /// Whether a transaction is open. Then the connection is not fit for another user.
     pub in_transaction: bool,
@@ -39,7 +39,7 @@ impl Drop for Connection {
 pub async fn open(config: &Config) -> Result<Client, Error> {
     let (client, connection) = config.connect(NoTls).await?;
     tokio::spawn(async move {
-        // An error ends the connection, which `is_closed` of its client tells.
+        // An error ends the connection, which `is_closed` of its client reports.
         let _ended = connection.await;
     });
     Ok(client)
@@ -57,7 +57,7 @@ async fn process_of(client: &Client) -> Result<i32, Error> {
 
 /// Opens connections to one database.
 pub struct Database {
-    /// Where the database is.
+    /// The address of the database, and the login.
     pub config: Config,
     /// The log of its connections.
     pub log: Arc<Log>,

@@ -1,6 +1,6 @@
 //! Outages of PostgreSQL: server processes that freeze, as in a failover without a reset; a server
 //! that is killed and restarted; a role or a password that the server refuses; a server that
-//! accepts connections and never answers. In each, gets end in time, and gets after it are all
+//! accepts connections and never replies. In each, gets end in time, and gets after it are all
 //! served.
 //!
 //! Arguments: the connection string, and the commands that kill the server and start it. Its
@@ -43,8 +43,8 @@ impl ErrorSink<Error> for Sink {
     }
 }
 
-/// What a load of gets met: how many were served and failed, how many of those that began later
-/// than `PATIENCE` failed, and the longest get.
+/// The results of a load of gets: how many were served and failed, how many of those that began
+/// later than `PATIENCE` failed, and the longest get.
 #[derive(Debug, Default)]
 struct Met {
     served: u32,
@@ -89,7 +89,7 @@ impl Met {
     }
 }
 
-/// Has tasks get connections and ask the server for so long.
+/// Has tasks get connections and query the server for this long.
 async fn load(pool: &Pool<Database>, long: Duration) -> Result<Met, Failure> {
     let begin = Instant::now();
     let met = Arc::new(Mutex::new(Met::default()));
@@ -217,7 +217,7 @@ async fn refuse(
     shut_out(builder(None), config, Some(cause), mend).await
 }
 
-/// Gets from a server that accepts connections and never answers, until it forwards them to
+/// Gets from a server that accepts connections and never replies, until it forwards them to
 /// another.
 async fn silence(config: &Config) -> Result<bool, Failure> {
     let listener = TcpListener::bind("127.0.0.1:0").await?;

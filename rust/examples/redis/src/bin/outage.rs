@@ -1,5 +1,5 @@
 //! Outages of Redis: a server that freezes, is killed and restarted, refuses the password, or
-//! accepts connections and never answers. In each, gets end in time, and gets after it are all
+//! accepts connections and never replies. In each, gets end in time, and gets after it are all
 //! served.
 //!
 //! Arguments: the server's address, the file with its process number, the command that starts it.
@@ -41,9 +41,9 @@ struct Machine {
     address: String,
     process: String,
     start: String,
-    /// Where the pool's manager connects to.
+    /// The address to which the pool's manager connects.
     current: Arc<Mutex<String>>,
-    /// Accepts connections and never answers.
+    /// Accepts connections and never replies.
     silent: String,
     log: Arc<Log>,
 }
@@ -228,7 +228,7 @@ async fn meet(machine: &Machine, outage: Outage, limit: Option<Duration>) -> Res
     Ok(checks.iter().all(|(_, holds)| *holds))
 }
 
-/// Starts a listener that accepts connections and never answers. Returns its address.
+/// Starts a listener that accepts connections and never replies. Returns its address.
 async fn be_silent() -> io::Result<String> {
     let listener = TcpListener::bind("127.0.0.1:0").await?;
     let address = listener.local_addr()?.to_string();

@@ -1,4 +1,4 @@
-use Rattle.bb8_lock.specs.Chains.{Answers}
+use Rattle.bb8_lock.specs.Traces.{Answers}
 use Rattle.bb8.proofs.building.BuildingBuildingCalls.wait.Goals as goal
 
 pub loop-init : goal.loop-init

@@ -7,5 +7,5 @@ loop-connection-preserved-in-Some-pop g c =
     let tickets = rw c.in-Some-pop.field-0-is at c.in-Some-pop.ensures.items in (
       search rules,
       search rules,
-      λ rest. c.loop-connection.invariant.2 (rw (tickets, c.in-Some.ensures.items) (all_zipped_more _ _ _ _ _ rest (c.take_one-part.result, c.drop.ensures))),
+      λ rest. c.loop-connection.invariant.2 (rw (tickets, c.in-Some.ensures.items) (all_zipped_more _ _ _ _ _ rest (c.take_one-permit.result, c.drop.ensures))),
     )

@@ -1,4 +1,4 @@
-use Rattle.bb8_lock.specs.Chains.{Answers}
+use Rattle.bb8_lock.specs.Traces.{Answers}
 use Rattle.bb8.proofs.owned.GetOwnedFutureFuture.poll.Goals as goal
 
 pub returns-in-Ready-clause-value : goal.returns-in-Ready-clause-value

@@ -12,5 +12,5 @@ invariant_of-result g c = (
     rw (c.new-records.ensures, c.new.ensures)
         (same_shown _ _ refl refl refl refl refl (of_records.shown-none c.args.first_number) (of_gets.shown-none c.args.first_get) refl),
   ),
-  record { age = c.greatest_age.ensures; closed = λ k few. refl },
+  record { age = c.max_age.ensures; closed = λ k few. refl },
 )

@@ -7,27 +7,27 @@ use Rattle.bb8_core.proofs.internals.PoolInternals.begin.Goals as goal
 
 pub returns-then-not-has_number-clause-step : goal.returns-then-not-has_number-clause-step
 returns-then-not-has_number-clause-step g c = (
-  at_view c.self.view_is
+  at_view c.self.view_is c.self.invariant.0
       (meets_exhausted c.max-self-inside.ensures (fits_view acts.Begin c.self.view_is (fitting acts.Begin c.if-not-fits_begin.ensures)) (used_up _ c.has_number.ensures c.if-not-has_number.true)),
   tt,
 )
 
 pub invariant_of-self-then-not-has_number : goal.invariant_of-self-then-not-has_number
-invariant_of-self-then-not-has_number g c = (led _ c.args.at.0 acts.Begin _ c.self.view_is c.self.invariant.0 (returns-then-not-has_number-clause-step g c).0, c.self.invariant.1)
+invariant_of-self-then-not-has_number g c = (led _ c.args.at.0 acts.Begin _ (returns-then-not-has_number-clause-step g c).0, c.self.invariant.1)
 
 pub begin-requires : goal.begin-requires
 begin-requires g c = left _ c.has_number.ensures c.if-not-has_number.false
 
 pub returns-in-None-clause-step : goal.returns-in-None-clause-step
 returns-in-None-clause-step g c = (
-  at_view c.self.view_is
+  at_view c.self.view_is c.self.invariant.0
       (meets_memory c.max-self-inside.ensures (fits_view acts.Begin c.self.view_is (fitting acts.Begin c.if-not-fits_begin.ensures))
       (left _ c.has_number.ensures c.if-not-has_number.false) c.in-None.ensures.none.0 c.in-None.ensures.none.1),
   tt,
 )
 
 pub invariant_of-self-in-None : goal.invariant_of-self-in-None
-invariant_of-self-in-None g c = (led _ c.args.at.0 acts.Begin _ c.self.view_is c.self.invariant.0 (returns-in-None-clause-step g c).0, c.self.invariant.1)
+invariant_of-self-in-None g c = (led _ c.args.at.0 acts.Begin _ (returns-in-None-clause-step g c).0, c.self.invariant.1)
 
 pub overflow_add-self : goal.overflow_add-self
 overflow_add-self g c =
@@ -37,17 +37,17 @@ overflow_add-self g c =
 
 pub returns-in-Some-clause-step : goal.returns-in-Some-clause-step
 returns-in-Some-clause-step g c = (
-  at_view c.self.view_is
+  at_view c.self.view_is c.self.invariant.0
       (meets_begun c.max-self-inside.ensures (fits_view acts.Begin c.self.view_is (fitting acts.Begin c.if-not-fits_begin.ensures))
       (left _ c.has_number.ensures c.if-not-has_number.false) c.in-Some.ensures.some.1 refl c.in-Some.ensures.some.0),
   tt,
 )
 
 pub invariant_of-self-in-Some : goal.invariant_of-self-in-Some
-invariant_of-self-in-Some g c = (led _ c.args.at.0 acts.Begin _ c.self.view_is c.self.invariant.0 (returns-in-Some-clause-step g c).0, c.self.invariant.1)
+invariant_of-self-in-Some g c = (led _ c.args.at.0 acts.Begin _ (returns-in-Some-clause-step g c).0, c.self.invariant.1)
 
 pub returns-then-not-fits_begin-clause-step : goal.returns-then-not-fits_begin-clause-step
-returns-then-not-fits_begin-clause-step g c = unfit_step c.args.at.0 acts.Begin c.self.view_is c.if-not-fits_begin.ensures
+returns-then-not-fits_begin-clause-step g c = unfit_step c.args.at.0 acts.Begin c.self.view_is c.self.invariant.0 c.if-not-fits_begin.ensures
 
 pub invariant_of-self : goal.invariant_of-self
-invariant_of-self g c = (led _ c.args.at.0 acts.Begin _ c.self.view_is c.self.invariant.0 (returns-then-not-fits_begin-clause-step g c).0, c.self.invariant.1)
+invariant_of-self g c = (led _ c.args.at.0 acts.Begin _ (returns-then-not-fits_begin-clause-step g c).0, c.self.invariant.1)

@@ -4,11 +4,12 @@ use Rattle.bb8_core.proofs.Fitting.{shown_fits, fits_held, unfit_held, held_out,
 use Rattle.bb8_core.proofs.Runs.{unfit_gets}
 use Rattle.bb8_core.proofs.Steps.{led, at_view}
 use Rattle.bb8_core.proofs.GetEnds.{notices, meets_invalid}
-use Rattle.bb8_core.proofs.Parts.{counted}
+use Rattle.std.proofs.Math.Nat.{min-le_left}
+use Rattle.bb8_core.proofs.StepBounds.{bounded, one_few, reads_none, searched_none}
 use Rattle.bb8_core.proofs.internals.PoolInternals.checked_err.Goals as goal
 
 pub returns-in_default-clause-step : goal.returns-in_default-clause-step
-returns-in_default-clause-step g c = unfit_gets c.args.at.0 (acts.CheckedErr c.args.get.number c.args.broken) c.self.view_is
+returns-in_default-clause-step g c = unfit_gets c.args.at.0 (acts.CheckedErr c.args.get.number c.args.broken) c.self.view_is c.self.invariant.0
     (unfit_held (view_of c.self.inside) c.args.get.number c.in_default.ensures.none.0) c.in_default.ensures.none.1
 
 pub close_and_grant-grant-requires-clause-out : goal.close_and_grant-grant-requires-clause-out
@@ -30,7 +31,7 @@ close-requires g c =
 pub returns-clause-step : goal.returns-clause-step
 returns-clause-step g c =
     let held = c.in-Some.ensures.some in (
-      at_view c.self.view_is
+      at_view c.self.view_is c.self.invariant.0
           (meets_invalid c.self.inside.counters (fits_held (view_of c.self.inside) c.args.get.number c.in-Some.held held.0)
           (record { now_is = c.max-now.ensures; get_is = refl; held = held.0 })
           (record { now_is = c.max-now.ensures; birth_is = c.birth-birth.ensures.value; aged_is = c.either-expired.ensures ∙ ap (λ (b : Bool). b || ltb c.in-Some.held c.self.inside.retired) c.is_expired.ensures })
@@ -40,7 +41,7 @@ returns-clause-step g c =
     )
 
 pub invariant_of-self-2 : goal.invariant_of-self-2
-invariant_of-self-2 g c = (led _ c.args.at.0 (acts.CheckedErr c.args.get.number c.args.broken) _ c.self.view_is c.self.invariant.0 (returns-clause-step g c).0, c.self.invariant.1)
+invariant_of-self-2 g c = (led _ c.args.at.0 (acts.CheckedErr c.args.get.number c.args.broken) _ (returns-clause-step g c).0, c.self.invariant.1)
 
-pub returns-clause-counts : goal.returns-clause-counts
-returns-clause-counts g c = counted _ c.args.at.0 (acts.CheckedErr c.args.get.number c.args.broken) _ c.self.view_is c.self.invariant.0 (returns-clause-step g c).0
+pub returns-clause-bounds : goal.returns-clause-bounds
+returns-clause-bounds g c = bounded _ c.args.at.0 (acts.CheckedErr c.args.get.number c.args.broken) _ (returns-clause-step g c).0 c.self.view_is c.end.ensures (omega (arith, one_few, min-le_left, reads_none c.none-accesses.ensures)) (omega (arith, one_few, min-le_left, searched_none c.none-accesses.ensures))

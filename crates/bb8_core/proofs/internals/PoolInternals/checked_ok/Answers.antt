@@ -19,7 +19,7 @@ serve-requires g c =
 pub returns-in-Some-clause-step : goal.returns-in-Some-clause-step
 returns-in-Some-clause-step g c =
     let a = view_of c.self.inside in (
-      at_view c.self.view_is
+      at_view c.self.view_is c.self.invariant.0
           (meets_passed c.self.inside.counters (fits_held a c.args.get.number c.in-Some.held c.in-Some.ensures.some.0)
           (record { now_is = c.max-now.ensures; get_is = refl; held = c.in-Some.ensures.some.0 ∙ ap (λ (k : ℕ). Some k) (sym c.hand_over-key.ensures.key) })
           (ap (λ (s : StateView g.row.C.Denot). s.records.next) (sym c.self.view_is))
@@ -29,8 +29,8 @@ returns-in-Some-clause-step g c =
     )
 
 pub invariant_of-self-in-Some : goal.invariant_of-self-in-Some
-invariant_of-self-in-Some g c = (led _ c.args.at.0 (acts.CheckedOk c.args.get.number) _ c.self.view_is c.self.invariant.0 (returns-in-Some-clause-step g c).0, c.self.invariant.1)
+invariant_of-self-in-Some g c = (led _ c.args.at.0 (acts.CheckedOk c.args.get.number) _ (returns-in-Some-clause-step g c).0, c.self.invariant.1)
 
 pub returns-in-None-clause-step : goal.returns-in-None-clause-step
-returns-in-None-clause-step g c = unfit_gets c.args.at.0 (acts.CheckedOk c.args.get.number) c.self.view_is
+returns-in-None-clause-step g c = unfit_gets c.args.at.0 (acts.CheckedOk c.args.get.number) c.self.view_is c.self.invariant.0
     (unfit_held (view_of c.self.inside) c.args.get.number c.in-None.ensures.none.0) c.in-None.ensures.none.1

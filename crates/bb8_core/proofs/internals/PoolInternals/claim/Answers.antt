@@ -14,15 +14,15 @@ meets_claimed s at None now rs now_is alive_now some none = meets_claim_none now
 meets_claimed s at (Some key) now rs now_is alive_now some none = meets_claim now_is alive_now some.0 some.1
 
 pub returns-then-self-eq0-clause-step : goal.returns-then-self-eq0-clause-step
-returns-then-self-eq0-clause-step g c = at_view c.self.view_is
+returns-then-self-eq0-clause-step g c = at_view c.self.view_is c.self.invariant.0
     (meets_claim_ended c.max-self-inside.ensures c.if-self-eq0.true)
 
 pub invariant_of-self : goal.invariant_of-self
-invariant_of-self g c = (led _ c.args.at.0 acts.Claim _ c.self.view_is c.self.invariant.0 (returns-then-self-eq0-clause-step g c), c.self.invariant.1)
+invariant_of-self g c = (led _ c.args.at.0 acts.Claim _ (returns-then-self-eq0-clause-step g c), c.self.invariant.1)
 
 pub returns-clause-step : goal.returns-clause-step
-returns-clause-step g c = at_view c.self.view_is
+returns-clause-step g c = at_view c.self.view_is c.self.invariant.0
     (meets_claimed (view_of c.self.inside) c.args.at.0 c.claim-claimed.result c.max-self-inside.result c.claim-claimed.new.self c.max-self-inside.ensures c.if-self-eq0.false c.claim-claimed.ensures.some c.claim-claimed.ensures.none)
 
 pub invariant_of-self-2 : goal.invariant_of-self-2
-invariant_of-self-2 g c = (led _ c.args.at.0 acts.Claim _ c.self.view_is c.self.invariant.0 (returns-clause-step g c), c.self.invariant.1)
+invariant_of-self-2 g c = (led _ c.args.at.0 acts.Claim _ (returns-clause-step g c), c.self.invariant.1)

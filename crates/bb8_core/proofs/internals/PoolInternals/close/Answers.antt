@@ -3,4 +3,4 @@ use Rattle.bb8_core.proofs.Runs.{unfit_step}
 use Rattle.bb8_core.proofs.internals.PoolInternals.close.Goals as goal
 
 pub returns-then-not-fits_close-clause-step : goal.returns-then-not-fits_close-clause-step
-returns-then-not-fits_close-clause-step g c = unfit_step c.args.at.0 Close c.self.view_is c.if-not-fits_close.ensures
+returns-then-not-fits_close-clause-step g c = unfit_step c.args.at.0 Close c.self.view_is c.self.invariant.0 c.if-not-fits_close.ensures

@@ -1,20 +1,20 @@
-use Rattle.bb8_core.proofs.Words.{refl}
+use Rattle.bb8_core.proofs.Words.{refl, arith}
 use Rattle.bb8_ledger.specs.Acts as acts
 use Rattle.bb8_core.proofs.Closings.{shut_offers}
 use Rattle.bb8_core.proofs.Steps.{meets_shut, led, at_view, fits_view}
-use Rattle.bb8_core.proofs.Parts.{counted}
+use Rattle.bb8_core.proofs.StepBounds.{bounded, reads_none, searched_none}
 use Rattle.bb8_core.proofs.ClosesBelow.{all_below}
 use Rattle.bb8_core.proofs.internals.PoolInternals.close_into.Goals as goal
 
 pub returns-clause-step : goal.returns-clause-step
-returns-clause-step g c = at_view c.self.view_is
+returns-clause-step g c = at_view c.self.view_is c.self.invariant.0
     (meets_shut c.max-self-inside.ensures (fits_view acts.Close c.self.view_is c.requires) c.leave.ensures.many c.leave.ensures.state)
 
 pub invariant_of-self : goal.invariant_of-self
-invariant_of-self g c = (led _ c.args.at.0 acts.Close _ c.self.view_is c.self.invariant.0 (returns-clause-step g c), record { age = c.self.invariant.1.age; closed = all_below 0 c.self.inside.retired refl })
+invariant_of-self g c = (led _ c.args.at.0 acts.Close _ (returns-clause-step g c), record { age = c.self.invariant.1.age; closed = all_below 0 c.self.inside.retired refl })
 
 pub returns-clause-closed : goal.returns-clause-closed
 returns-clause-closed g c = shut_offers c.args.closed.now c.self.view_is c.self.invariant.0 c.leave.ensures.listed
 
-pub returns-clause-counts : goal.returns-clause-counts
-returns-clause-counts g c = counted _ c.args.at.0 acts.Close _ c.self.view_is c.self.invariant.0 (returns-clause-step g c)
+pub returns-clause-bounds : goal.returns-clause-bounds
+returns-clause-bounds g c = bounded _ c.args.at.0 acts.Close _ (returns-clause-step g c) c.self.view_is c.end.ensures (omega (arith, reads_none c.none.ensures)) (omega (arith, searched_none c.none.ensures))

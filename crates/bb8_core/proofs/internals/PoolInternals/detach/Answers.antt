@@ -1,14 +1,18 @@
 use Rattle.bb8_core.proofs.Words.{refl, sym, ◌∙◌, arith, is_guarded, view_of}
 use Rattle.bb8_ledger.specs.Acts as acts
-use Rattle.bb8_core.proofs.Fitting.{as_shown, fits_at, unfit_at, guarded_record, closed_few}
+use Rattle.bb8_core.proofs.Fitting.{as_shown, shown_fits, fits_at, unfit_at, guarded_record, closed_few}
 use Rattle.bb8_core.proofs.Runs.{unfit_step}
 use Rattle.bb8_core.proofs.Steps.{meets_detached, led, at_view}
-use Rattle.bb8_core.proofs.Parts.{counted}
+use Rattle.std.proofs.Math.Nat.{min-le_left}
+use Rattle.bb8_core.proofs.StepBounds.{bounded, one_few, reads_none, searched_none}
 use Rattle.bb8_core.proofs.internals.PoolInternals.detach.Goals as goal
 
 pub returns-then-not-is_guarded-clause-step : goal.returns-then-not-is_guarded-clause-step
-returns-then-not-is_guarded-clause-step g c = unfit_step c.args.at.0 (acts.Detach c.args.k.number) c.self.view_is (λ l legal means.
+returns-then-not-is_guarded-clause-step g c = unfit_step c.args.at.0 (acts.Detach c.args.k.number) c.self.view_is c.self.invariant.0 (λ l legal means.
     unfit_at (view_of c.self.inside) is_guarded c.args.k.number (sym c.is_guarded.ensures.value ∙ c.if-not-is_guarded.true) l legal (as_shown l (sym c.self.view_is) means))
+
+pub close_and_grant-grant-requires-clause-size : goal.close_and_grant-grant-requires-clause-size
+close_and_grant-grant-requires-clause-size g c = (shown_fits (view_of c.self.inside) c.self.invariant.0).size
 
 pub detach-requires : goal.detach-requires
 detach-requires g c =
@@ -17,7 +21,7 @@ detach-requires g c =
 
 pub returns-clause-step : goal.returns-clause-step
 returns-clause-step g c = (
-  at_view c.self.view_is
+  at_view c.self.view_is c.self.invariant.0
       (meets_detached c.self.inside.counters c.max-self-inside.ensures
       (fits_at (view_of c.self.inside) is_guarded c.args.k.number (sym c.is_guarded.ensures.value ∙ c.if-not-is_guarded.false))
       (record { who = c.notify-notified.ensures.value; after = c.notify-notified.ensures.state })
@@ -26,10 +30,10 @@ returns-clause-step g c = (
 )
 
 pub invariant_of-self-2 : goal.invariant_of-self-2
-invariant_of-self-2 g c = (led _ c.args.at.0 (acts.Detach c.args.k.number) _ c.self.view_is c.self.invariant.0 (returns-clause-step g c).0, c.self.invariant.1)
+invariant_of-self-2 g c = (led _ c.args.at.0 (acts.Detach c.args.k.number) _ (returns-clause-step g c).0, c.self.invariant.1)
 
-pub returns-clause-counts : goal.returns-clause-counts
-returns-clause-counts g c = counted _ c.args.at.0 (acts.Detach c.args.k.number) _ c.self.view_is c.self.invariant.0 (returns-clause-step g c).0
+pub returns-clause-bounds : goal.returns-clause-bounds
+returns-clause-bounds g c = bounded _ c.args.at.0 (acts.Detach c.args.k.number) _ (returns-clause-step g c).0 c.self.view_is c.end.ensures (omega (arith, one_few, min-le_left, reads_none c.none-accesses.ensures)) (omega (arith, one_few, min-le_left, searched_none c.none-accesses.ensures))
 
 pub invariant_of-self : goal.invariant_of-self
-invariant_of-self g c = (led _ c.args.at.0 (acts.Detach c.args.k.number) _ c.self.view_is c.self.invariant.0 (returns-then-not-is_guarded-clause-step g c).0, c.self.invariant.1)
+invariant_of-self g c = (led _ c.args.at.0 (acts.Detach c.args.k.number) _ (returns-then-not-is_guarded-clause-step g c).0, c.self.invariant.1)

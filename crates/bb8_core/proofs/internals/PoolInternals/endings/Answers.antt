@@ -1,5 +1,5 @@
 use Rattle.std.proofs.Common.{arith}
-use Rattle.bb8_core.proofs.Parts.{idle_few}
+use Rattle.bb8_core.proofs.StepBounds.{idle_few}
 use Rattle.bb8_core.proofs.internals.PoolInternals.endings.Goals as goal
 
 pub overflow_sub-out : goal.overflow_sub-out

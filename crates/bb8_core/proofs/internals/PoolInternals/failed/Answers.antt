@@ -6,20 +6,20 @@ use Rattle.bb8_core.proofs.Steps.{meets_failed, led, at_view}
 use Rattle.bb8_core.proofs.internals.PoolInternals.failed.Goals as goal
 
 pub returns-then-not-end_claimed-clause-step : goal.returns-then-not-end_claimed-clause-step
-returns-then-not-end_claimed-clause-step g c = unfit_records c.args.at.0 (acts.Failed c.args.approval.number) c.self.view_is
+returns-then-not-end_claimed-clause-step g c = unfit_records c.args.at.0 (acts.Failed c.args.approval.number) c.self.view_is c.self.invariant.0
     (unfit_at (view_of c.self.inside) is_claimed c.args.approval.number (c.end_claimed.ensures.unfit c.if-not-end_claimed.true).0)
     (c.end_claimed.ensures.unfit c.if-not-end_claimed.true).1
 
 pub invariant_of-self : goal.invariant_of-self
-invariant_of-self g c = (led _ c.args.at.0 (acts.Failed c.args.approval.number) _ c.self.view_is c.self.invariant.0 (returns-then-not-end_claimed-clause-step g c).0, c.self.invariant.1)
+invariant_of-self g c = (led _ c.args.at.0 (acts.Failed c.args.approval.number) _ (returns-then-not-end_claimed-clause-step g c).0, c.self.invariant.1)
 
 pub returns-clause-step : goal.returns-clause-step
 returns-clause-step g c = (
-  at_view c.self.view_is
+  at_view c.self.view_is c.self.invariant.0
       (meets_failed c.max-self-inside.ensures (fits_at (view_of c.self.inside) is_claimed c.args.approval.number (c.end_claimed.ensures.ended c.if-not-end_claimed.false).0)
       (c.end_claimed.ensures.ended c.if-not-end_claimed.false).1),
   tt,
 )
 
 pub invariant_of-self-2 : goal.invariant_of-self-2
-invariant_of-self-2 g c = (led _ c.args.at.0 (acts.Failed c.args.approval.number) _ c.self.view_is c.self.invariant.0 (returns-clause-step g c).0, c.self.invariant.1)
+invariant_of-self-2 g c = (led _ c.args.at.0 (acts.Failed c.args.approval.number) _ (returns-clause-step g c).0, c.self.invariant.1)

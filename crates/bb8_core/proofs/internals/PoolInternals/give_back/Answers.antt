@@ -4,11 +4,12 @@ use Rattle.bb8_core.proofs.Fitting.{number_few, shown_fits, fits_give_back, unfi
 use Rattle.bb8_core.proofs.Runs.{unfit_gets}
 use Rattle.bb8_core.proofs.Steps.{regroup, led, at_view}
 use Rattle.bb8_core.proofs.GetEnds.{given_up_is, given_up_open, notices, meets_given_up_kept, meets_given_up_closed}
-use Rattle.bb8_core.proofs.Parts.{counted}
+use Rattle.std.proofs.Math.Nat.{min-le_left}
+use Rattle.bb8_core.proofs.StepBounds.{bounded, one_few, reads_none, searched_none}
 use Rattle.bb8_core.proofs.internals.PoolInternals.give_back.Goals as goal
 
 pub returns-in_default-clause-step : goal.returns-in_default-clause-step
-returns-in_default-clause-step g c = unfit_gets c.args.at.0 (acts.GiveUp c.args.get.number (reason_of c.args.reason) (Some c.args.conn) c.args.broken) c.self.view_is
+returns-in_default-clause-step g c = unfit_gets c.args.at.0 (acts.GiveUp c.args.get.number (reason_of c.args.reason) (Some c.args.conn) c.args.broken) c.self.view_is c.self.invariant.0
     (unfit_give_back (view_of c.self.inside) c.args.get.number (reason_of c.args.reason) c.args.conn c.args.broken c.in_default.ensures.none.0) c.in_default.ensures.none.1
 
 pub put_back-requires : goal.put_back-requires
@@ -32,19 +33,19 @@ returns-in-Ok-Ok-clause-step g c =
     let held = c.in-Some.ensures.some in
     let ok = rw c.in-Ok-Ok.field-0-is at c.in-Ok-Ok.ensures.ok in
     let few = number_few c.in-Some.held a c.self.invariant.0 (held_out a c.args.get.number c.in-Some.held c.self.invariant.0 held.0) c.in-Ok-Ok.ensures.numbers in (
-      at_view c.self.view_is
+      at_view c.self.view_is c.self.invariant.0
           (meets_given_up_kept c.args.reason c.self.inside.counters
           (fits_give_back a c.args.get.number c.in-Some.held (reason_of c.args.reason) c.args.conn c.args.broken held.0)
           (record { now_is = c.max-now.ensures; get_is = refl; held = held.0 })
           (record { now_is = c.max-now.ensures; birth_is = refl; aged_is = ap (λ (b : Bool). b || (ltb c.in-Some.held c.self.inside.retired)) (c.self.invariant.1.age (c.max-now.result - birth_in (get c.self.inside.records.places c.in-Some.held)) (omega arith)) })
-          c.is_doubtful-doubtful.ensures (regroup c.is_doubtful-doubtful.result (ltb c.self.inside.greatest_age (c.max-now.result - birth_in (get c.self.inside.records.places c.in-Some.held))) (eqb c.self.inside.handles 0) (ltb c.in-Some.held c.self.inside.retired) (c.self.invariant.1.closed c.in-Some.held few) refl ok.0) ok.1 (notices held.2 c.notify-notified.ensures.value c.notify-notified.ensures.state) refl held.1
+          c.is_doubtful-doubtful.ensures (regroup c.is_doubtful-doubtful.result (ltb c.self.inside.max_age (c.max-now.result - birth_in (get c.self.inside.records.places c.in-Some.held))) (eqb c.self.inside.handles 0) (ltb c.in-Some.held c.self.inside.retired) (c.self.invariant.1.closed c.in-Some.held few) refl ok.0) ok.1 (notices held.2 c.notify-notified.ensures.value c.notify-notified.ensures.state) refl held.1
           (given_up_is c.args.reason c.max-now.result c.in-Some.first_wait c.give_up.ensures.timed_out c.give_up.ensures.cancelled)),
       tt,
     )
 
 pub invariant_of-self-in-Ok-Ok : goal.invariant_of-self-in-Ok-Ok
 invariant_of-self-in-Ok-Ok g c = (
-  led _ c.args.at.0 (acts.GiveUp c.args.get.number (reason_of c.args.reason) (Some c.args.conn) c.args.broken) _ c.self.view_is c.self.invariant.0
+  led _ c.args.at.0 (acts.GiveUp c.args.get.number (reason_of c.args.reason) (Some c.args.conn) c.args.broken) _
       (returns-in-Ok-Ok-clause-step g c).0,
   c.self.invariant.1,
 )
@@ -72,7 +73,7 @@ returns-in-Ok-Err-clause-step g c =
     let held = c.in-Some.ensures.some in
     let err = rw c.in-Ok-Err.field-0-is at c.in-Ok-Err.ensures.err in
     let few = number_few c.in-Some.held a c.self.invariant.0 (held_out a c.args.get.number c.in-Some.held c.self.invariant.0 held.0) (rw err.3 at c.close_and_grant-grant.ensures.numbers) in (
-      at_view c.self.view_is
+      at_view c.self.view_is c.self.invariant.0
           (meets_given_up_closed c.args.reason c.self.inside.counters
           (fits_give_back a c.args.get.number c.in-Some.held (reason_of c.args.reason) c.args.conn c.args.broken held.0)
           (record { now_is = c.max-now.ensures; get_is = refl; held = held.0 })
@@ -85,13 +86,13 @@ returns-in-Ok-Err-clause-step g c =
 
 pub invariant_of-self-in-Ok-Err : goal.invariant_of-self-in-Ok-Err
 invariant_of-self-in-Ok-Err g c = (
-  led _ c.args.at.0 (acts.GiveUp c.args.get.number (reason_of c.args.reason) (Some c.args.conn) c.args.broken) _ c.self.view_is c.self.invariant.0
+  led _ c.args.at.0 (acts.GiveUp c.args.get.number (reason_of c.args.reason) (Some c.args.conn) c.args.broken) _
       (returns-in-Ok-Err-clause-step g c).0,
   c.self.invariant.1,
 )
 
-pub returns-in-Ok-Ok-clause-counts : goal.returns-in-Ok-Ok-clause-counts
-returns-in-Ok-Ok-clause-counts g c = counted _ c.args.at.0 (acts.GiveUp c.args.get.number (reason_of c.args.reason) (Some c.args.conn) c.args.broken) _ c.self.view_is c.self.invariant.0 (returns-in-Ok-Ok-clause-step g c).0
+pub returns-in-Ok-Ok-clause-bounds : goal.returns-in-Ok-Ok-clause-bounds
+returns-in-Ok-Ok-clause-bounds g c = bounded _ c.args.at.0 (acts.GiveUp c.args.get.number (reason_of c.args.reason) (Some c.args.conn) c.args.broken) _ (returns-in-Ok-Ok-clause-step g c).0 c.self.view_is c.end.ensures (omega (arith, one_few, min-le_left, reads_none c.none-accesses.ensures)) (omega (arith, one_few, min-le_left, searched_none c.none-accesses.ensures))
 
-pub returns-in-Ok-Err-clause-counts : goal.returns-in-Ok-Err-clause-counts
-returns-in-Ok-Err-clause-counts g c = counted _ c.args.at.0 (acts.GiveUp c.args.get.number (reason_of c.args.reason) (Some c.args.conn) c.args.broken) _ c.self.view_is c.self.invariant.0 (returns-in-Ok-Err-clause-step g c).0
+pub returns-in-Ok-Err-clause-bounds : goal.returns-in-Ok-Err-clause-bounds
+returns-in-Ok-Err-clause-bounds g c = bounded _ c.args.at.0 (acts.GiveUp c.args.get.number (reason_of c.args.reason) (Some c.args.conn) c.args.broken) _ (returns-in-Ok-Err-clause-step g c).0 c.self.view_is c.end-in-Ok-Err.ensures (omega (arith, one_few, min-le_left, reads_none c.none-accesses.ensures)) (omega (arith, one_few, min-le_left, searched_none c.none-accesses.ensures))

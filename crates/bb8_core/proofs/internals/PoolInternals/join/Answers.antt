@@ -8,29 +8,29 @@ use Rattle.bb8_core.proofs.internals.PoolInternals.join.Goals as goal
 
 pub returns-then-self-clause-step : goal.returns-then-self-clause-step
 returns-then-self-clause-step g c = (
-  at_view c.self.view_is
+  at_view c.self.view_is c.self.invariant.0
       (meets_join_exhausted c.max-self-inside.ensures (fits_view acts.Join c.self.view_is (fitting acts.Join c.if-not-fits_join.ensures)) c.if-self.true),
   tt,
 )
 
 pub invariant_of-self-then-self : goal.invariant_of-self-then-self
-invariant_of-self-then-self g c = (led _ c.args.at.0 acts.Join _ c.self.view_is c.self.invariant.0 (returns-then-self-clause-step g c).0, c.self.invariant.1)
+invariant_of-self-then-self g c = (led _ c.args.at.0 acts.Join _ (returns-then-self-clause-step g c).0, c.self.invariant.1)
 
 pub returns-clause-step : goal.returns-clause-step
 returns-clause-step g c = (
-  at_view c.self.view_is
+  at_view c.self.view_is c.self.invariant.0
       (meets_joined c.max-self-inside.ensures (fits_view acts.Join c.self.view_is (fitting acts.Join c.if-not-fits_join.ensures)) c.if-self.false),
   tt,
 )
 
 pub invariant_of-self-2 : goal.invariant_of-self-2
 invariant_of-self-2 g c = let some = fit_leave c.self.view_is c.self.invariant.0 (fitting acts.Join c.if-not-fits_join.ensures) in (
-  led _ c.args.at.0 acts.Join _ c.self.view_is c.self.invariant.0 (returns-clause-step g c).0,
+  led _ c.args.at.0 acts.Join _ (returns-clause-step g c).0,
   (record { age = c.self.invariant.1.age; closed = as_below c.self.inside.handles (c.self.inside.handles + 1) c.self.inside.retired _ (λ e. omega (arith, e, some)) (λ e. omega (arith, e)) c.self.invariant.1.closed }),
 )
 
 pub returns-then-not-fits_join-clause-step : goal.returns-then-not-fits_join-clause-step
-returns-then-not-fits_join-clause-step g c = unfit_step c.args.at.0 acts.Join c.self.view_is c.if-not-fits_join.ensures
+returns-then-not-fits_join-clause-step g c = unfit_step c.args.at.0 acts.Join c.self.view_is c.self.invariant.0 c.if-not-fits_join.ensures
 
 pub invariant_of-self : goal.invariant_of-self
-invariant_of-self g c = (led _ c.args.at.0 acts.Join _ c.self.view_is c.self.invariant.0 (returns-then-not-fits_join-clause-step g c).0, c.self.invariant.1)
+invariant_of-self g c = (led _ c.args.at.0 acts.Join _ (returns-then-not-fits_join-clause-step g c).0, c.self.invariant.1)

@@ -3,14 +3,15 @@ use Rattle.bb8_ledger.specs.Acts as acts
 use Rattle.bb8_core.proofs.Fitting.{number_few, shown_fits, fits_at, unfit_at, guarded_record, closed_few, none_after}
 use Rattle.bb8_core.proofs.Runs.{unfit_records}
 use Rattle.bb8_core.proofs.Steps.{meets_returned_kept, meets_returned_closed, regroup, led, at_view}
-use Rattle.bb8_core.proofs.Parts.{counted}
+use Rattle.std.proofs.Math.Nat.{min-le_left}
+use Rattle.bb8_core.proofs.StepBounds.{bounded, one_few, reads_none, searched_none}
 use Rattle.bb8_core.proofs.internals.PoolInternals.put_back.Goals as goal
 
 pub put_back-requires : goal.put_back-requires
 put_back-requires g c = none_after (view_of c.self.inside) c.args.at.0 c.max-now.result c.self.invariant.0 c.max-now.ensures
 
 pub returns-in-Err-clause-step : goal.returns-in-Err-clause-step
-returns-in-Err-clause-step g c = unfit_records c.args.at.0 (acts.PutBack c.args.k.number c.args.conn c.args.broken) c.self.view_is
+returns-in-Err-clause-step g c = unfit_records c.args.at.0 (acts.PutBack c.args.k.number c.args.conn c.args.broken) c.self.view_is c.self.invariant.0
     (unfit_at (view_of c.self.inside) is_guarded c.args.k.number c.in-Err.ensures.unfit.2) c.in-Err.ensures.unfit.1
 
 pub returns-in-Ok-Ok-clause-step : goal.returns-in-Ok-Ok-clause-step
@@ -18,17 +19,17 @@ returns-in-Ok-Ok-clause-step g c =
     let a = view_of c.self.inside in
     let ok = rw c.in-Ok-Ok.field-0-is at c.in-Ok-Ok.ensures.ok in
     let few = number_few c.args.k.number a c.self.invariant.0 (guarded_record a c.args.k.number c.in-Ok-Ok.ensures.held) c.in-Ok-Ok.ensures.numbers in (
-      at_view c.self.view_is
+      at_view c.self.view_is c.self.invariant.0
           (meets_returned_kept (fits_at a is_guarded c.args.k.number c.in-Ok-Ok.ensures.held)
           (record { who = c.notify-notified.ensures.value; after = c.notify-notified.ensures.state })
           (record { now_is = c.max-now.ensures; birth_is = refl; aged_is = ap (λ (b : Bool). b || (ltb c.args.k.number c.self.inside.retired)) (c.self.invariant.1.age (c.max-now.result - birth_in (get c.self.inside.records.places c.args.k.number)) (omega arith)) })
-          (regroup c.args.broken (ltb c.self.inside.greatest_age (c.max-now.result - birth_in (get c.self.inside.records.places c.args.k.number))) (eqb c.self.inside.handles 0) (ltb c.args.k.number c.self.inside.retired) (c.self.invariant.1.closed c.args.k.number few) refl ok.0) ok.1),
+          (regroup c.args.broken (ltb c.self.inside.max_age (c.max-now.result - birth_in (get c.self.inside.records.places c.args.k.number))) (eqb c.self.inside.handles 0) (ltb c.args.k.number c.self.inside.retired) (c.self.invariant.1.closed c.args.k.number few) refl ok.0) ok.1),
       tt,
     )
 
 pub invariant_of-self-in-Ok-Ok : goal.invariant_of-self-in-Ok-Ok
 invariant_of-self-in-Ok-Ok g c = (
-  led _ c.args.at.0 (acts.PutBack c.args.k.number c.args.conn c.args.broken) _ c.self.view_is c.self.invariant.0
+  led _ c.args.at.0 (acts.PutBack c.args.k.number c.args.conn c.args.broken) _
       (returns-in-Ok-Ok-clause-step g c).0,
   c.self.invariant.1,
 )
@@ -52,7 +53,7 @@ returns-in-Ok-Err-clause-step g c =
     let r = c.in-Ok-Err.ensures in
     let err = rw c.in-Ok-Err.field-0-is at r.err in
     let few = number_few c.args.k.number a c.self.invariant.0 (guarded_record a c.args.k.number r.held) (rw err.3 at c.close_and_grant-grant.ensures.numbers) in (
-      at_view c.self.view_is
+      at_view c.self.view_is c.self.invariant.0
           (meets_returned_closed c.self.inside.counters (fits_at a is_guarded c.args.k.number r.held)
           (record { who = c.notify-notified-in-Ok-Err.ensures.value; after = c.notify-notified-in-Ok-Err.ensures.state })
           (record { now_is = c.max-now.ensures; birth_is = refl; aged_is = c.either.ensures ∙ ap (λ (b : Bool). b || (ltb c.args.k.number c.self.inside.retired)) (err.1 ∙ c.self.invariant.1.age (c.max-now.result - birth_in (get c.self.inside.records.places c.args.k.number)) (omega arith)) })
@@ -62,13 +63,13 @@ returns-in-Ok-Err-clause-step g c =
 
 pub invariant_of-self-in-Ok-Err : goal.invariant_of-self-in-Ok-Err
 invariant_of-self-in-Ok-Err g c = (
-  led _ c.args.at.0 (acts.PutBack c.args.k.number c.args.conn c.args.broken) _ c.self.view_is c.self.invariant.0
+  led _ c.args.at.0 (acts.PutBack c.args.k.number c.args.conn c.args.broken) _
       (returns-in-Ok-Err-clause-step g c).0,
   c.self.invariant.1,
 )
 
-pub returns-in-Ok-Ok-clause-counts : goal.returns-in-Ok-Ok-clause-counts
-returns-in-Ok-Ok-clause-counts g c = counted _ c.args.at.0 (acts.PutBack c.args.k.number c.args.conn c.args.broken) _ c.self.view_is c.self.invariant.0 (returns-in-Ok-Ok-clause-step g c).0
+pub returns-in-Ok-Ok-clause-bounds : goal.returns-in-Ok-Ok-clause-bounds
+returns-in-Ok-Ok-clause-bounds g c = bounded _ c.args.at.0 (acts.PutBack c.args.k.number c.args.conn c.args.broken) _ (returns-in-Ok-Ok-clause-step g c).0 c.self.view_is c.end.ensures (omega (arith, one_few, min-le_left, reads_none c.none-accesses.ensures)) (omega (arith, one_few, min-le_left, searched_none c.none-accesses.ensures))
 
-pub returns-in-Ok-Err-clause-counts : goal.returns-in-Ok-Err-clause-counts
-returns-in-Ok-Err-clause-counts g c = counted _ c.args.at.0 (acts.PutBack c.args.k.number c.args.conn c.args.broken) _ c.self.view_is c.self.invariant.0 (returns-in-Ok-Err-clause-step g c).0
+pub returns-in-Ok-Err-clause-bounds : goal.returns-in-Ok-Err-clause-bounds
+returns-in-Ok-Err-clause-bounds g c = bounded _ c.args.at.0 (acts.PutBack c.args.k.number c.args.conn c.args.broken) _ (returns-in-Ok-Err-clause-step g c).0 c.self.view_is c.end-in-Ok-Err.ensures (omega (arith, one_few, min-le_left, reads_none c.none-accesses.ensures)) (omega (arith, one_few, min-le_left, searched_none c.none-accesses.ensures))

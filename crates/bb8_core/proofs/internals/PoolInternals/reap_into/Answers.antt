@@ -1,18 +1,19 @@
-use Rattle.bb8_core.proofs.Words.{◌+◌, ◌≤◌, ap, arith, refl, after_reap, RecordsView, view_of}
+use Rattle.bb8_core.proofs.Words.{◌+◌, ◌≤◌, ap, arith, refl, after_reap, RecordsView, view_of, StateView}
 use Rattle.bb8_ledger.specs.Acts as acts
 use Rattle.bb8_core.proofs.Fitting.{due_fits}
 use Rattle.bb8_core.proofs.ShownReaped.{reap_few}
 use Rattle.bb8_core.proofs.Closings.{reap_offers, no_reap_offers}
 use Rattle.bb8_core.proofs.Reaps.{meets_reap_ended, meets_reaped, reaped_few}
 use Rattle.bb8_core.proofs.Steps.{grants, led, at_view}
-use Rattle.bb8_core.proofs.Parts.{counted}
+use Rattle.bb8_core.specs.StepBounds.{out_of}
+use Rattle.bb8_core.proofs.StepBounds.{bounded, reads_none, searched_none}
 use Rattle.bb8_core.proofs.internals.PoolInternals.reap_into.Goals as goal
 
 pub returns-then-self-eq0-clause-step : goal.returns-then-self-eq0-clause-step
-returns-then-self-eq0-clause-step g c = at_view c.self.view_is (meets_reap_ended c.max-now.ensures c.if-self-eq0.true)
+returns-then-self-eq0-clause-step g c = at_view c.self.view_is c.self.invariant.0 (meets_reap_ended c.max-now.ensures c.if-self-eq0.true)
 
 pub invariant_of-self : goal.invariant_of-self
-invariant_of-self g c = (led _ c.args.at.0 acts.Reap _ c.self.view_is c.self.invariant.0 (returns-then-self-eq0-clause-step g c), c.self.invariant.1)
+invariant_of-self g c = (led _ c.args.at.0 acts.Reap _ (returns-then-self-eq0-clause-step g c), c.self.invariant.1)
 
 pub grant-grant-requires : goal.grant-grant-requires
 grant-grant-requires g c =
@@ -33,12 +34,12 @@ pub reap-requires-clause-by_life : goal.reap-requires-clause-by_life
 reap-requires-clause-by_life g c = (reaped_few (view_of c.self.inside) c.self.invariant.0 (omega (arith, c.max-now.ensures)) c.reap-reaped.ensures.ends.2 c.reap-reaped.ensures.numbers).1
 
 pub returns-clause-step : goal.returns-clause-step
-returns-clause-step g c = at_view c.self.view_is
+returns-clause-step g c = at_view c.self.view_is c.self.invariant.0
     (meets_reaped c.self.inside.counters c.max-now.ensures c.if-self-eq0.false c.reap-reaped.ensures.ends.2
     (grants refl c.want-wanted.ensures c.grant-grant.ensures.granted c.grant-grant.ensures.state) refl c.reap.ensures)
 
 pub invariant_of-self-2 : goal.invariant_of-self-2
-invariant_of-self-2 g c = (led _ c.args.at.0 acts.Reap _ c.self.view_is c.self.invariant.0 (returns-clause-step g c), c.self.invariant.1)
+invariant_of-self-2 g c = (led _ c.args.at.0 acts.Reap _ (returns-clause-step g c), c.self.invariant.1)
 
 pub returns-then-self-eq0-clause-closed : goal.returns-then-self-eq0-clause-closed
 returns-then-self-eq0-clause-closed g c = no_reap_offers c.args.at.0 c.args.closed.now
@@ -46,5 +47,5 @@ returns-then-self-eq0-clause-closed g c = no_reap_offers c.args.at.0 c.args.clos
 pub returns-clause-closed : goal.returns-clause-closed
 returns-clause-closed g c = reap_offers c.args.at.0 c.grant-grant.result c.args.closed.now c.self.view_is c.max-now.ensures c.reap-reaped.ensures.ends.2 c.reap-reaped.ensures.ends.3
 
-pub returns-clause-counts : goal.returns-clause-counts
-returns-clause-counts g c = counted _ c.args.at.0 acts.Reap _ c.self.view_is c.self.invariant.0 (returns-clause-step g c)
+pub returns-clause-bounds : goal.returns-clause-bounds
+returns-clause-bounds g c = bounded _ c.args.at.0 acts.Reap _ (returns-clause-step g c) c.self.view_is c.end-2.ensures (omega (arith, reads_none c.none-accesses.ensures, ap (λ (s : StateView g.row.C.Denot). out_of s) c.self.view_is)) (omega (arith, searched_none c.none-accesses.ensures))

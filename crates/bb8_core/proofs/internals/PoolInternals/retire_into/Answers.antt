@@ -1,20 +1,21 @@
-use Rattle.bb8_core.proofs.Words.{◌+◌, ◌≤◌, ap, arith, refl, after_reap, RecordsView, view_of}
+use Rattle.bb8_core.proofs.Words.{◌+◌, ◌≤◌, ap, arith, refl, after_reap, RecordsView, view_of, StateView}
 use Rattle.bb8_ledger.specs.Acts as acts
 use Rattle.bb8_core.proofs.Fitting.{due_fits}
 use Rattle.bb8_core.proofs.ShownReaped.{reap_few}
 use Rattle.bb8_core.proofs.Closings.{retire_offers, no_retire_offers}
 use Rattle.bb8_core.proofs.Reaps.{meets_retire_ended, meets_retired, retired_few}
 use Rattle.bb8_core.proofs.Steps.{grants, led, at_view}
-use Rattle.bb8_core.proofs.Parts.{counted}
+use Rattle.bb8_core.specs.StepBounds.{out_of}
+use Rattle.bb8_core.proofs.StepBounds.{bounded, reads_none, searched_none}
 use Rattle.bb8_core.proofs.ClosesBelow.{still_below, retired_below}
 use Rattle.bb8_core.proofs.internals.PoolInternals.retire_into.Goals as goal
 
 pub returns-then-self-eq0-clause-step : goal.returns-then-self-eq0-clause-step
-returns-then-self-eq0-clause-step g c = at_view c.self.view_is (meets_retire_ended c.max-now.ensures c.next_number-self-inside.ensures c.if-self-eq0.true)
+returns-then-self-eq0-clause-step g c = at_view c.self.view_is c.self.invariant.0 (meets_retire_ended c.max-now.ensures c.next_number-self-inside.ensures c.if-self-eq0.true)
 
 pub invariant_of-self : goal.invariant_of-self
 invariant_of-self g c = (
-  led _ c.args.at.0 acts.Retire _ c.self.view_is c.self.invariant.0 (returns-then-self-eq0-clause-step g c),
+  led _ c.args.at.0 acts.Retire _ (returns-then-self-eq0-clause-step g c),
   (record { age = c.self.invariant.1.age; closed = still_below c.self.inside.handles c.self.inside.retired _ _ c.if-self-eq0.true c.self.invariant.1.closed }),
 )
 
@@ -34,15 +35,15 @@ pub retire-requires : goal.retire-requires
 retire-requires g c = retired_few (view_of c.self.inside) c.self.invariant.0 (omega (arith, c.max-now.ensures)) (rw c.retiring-all.ensures at c.reap-reaped.ensures.ends.2) c.reap-reaped.ensures.numbers
 
 pub returns-clause-step : goal.returns-clause-step
-returns-clause-step g c = at_view c.self.view_is
+returns-clause-step g c = at_view c.self.view_is c.self.invariant.0
     (meets_retired c.self.inside.counters c.max-now.ensures c.next_number-self-inside.ensures c.if-self-eq0.false (rw c.retiring-all.ensures at c.reap-reaped.ensures.ends.2)
     (grants refl c.want-wanted.ensures c.grant-grant.ensures.granted c.grant-grant.ensures.state) refl c.retire.ensures)
 
 pub invariant_of-self-2 : goal.invariant_of-self-2
-invariant_of-self-2 g c = (led _ c.args.at.0 acts.Retire _ c.self.view_is c.self.invariant.0 (returns-clause-step g c), record { age = c.self.invariant.1.age; closed = retired_below c.self.inside.handles _ c.if-self-eq0.false })
+invariant_of-self-2 g c = (led _ c.args.at.0 acts.Retire _ (returns-clause-step g c), record { age = c.self.invariant.1.age; closed = retired_below c.self.inside.handles _ c.if-self-eq0.false })
 
-pub returns-clause-counts : goal.returns-clause-counts
-returns-clause-counts g c = counted _ c.args.at.0 acts.Retire _ c.self.view_is c.self.invariant.0 (returns-clause-step g c)
+pub returns-clause-bounds : goal.returns-clause-bounds
+returns-clause-bounds g c = bounded _ c.args.at.0 acts.Retire _ (returns-clause-step g c) c.self.view_is c.end-2.ensures (omega (arith, reads_none c.none-accesses.ensures, ap (λ (s : StateView g.row.C.Denot). out_of s) c.self.view_is)) (omega (arith, searched_none c.none-accesses.ensures))
 
 pub returns-then-self-eq0-clause-closed : goal.returns-then-self-eq0-clause-closed
 returns-then-self-eq0-clause-closed g c = no_retire_offers c.args.at.0 c.args.closed.now

@@ -3,17 +3,18 @@ use Rattle.bb8_core.specs.StepAnswers.{NotAtOnce}
 use Rattle.bb8_ledger.specs.Acts as acts
 use Rattle.bb8_core.proofs.Fitting.{shown_record, shown_fits, due_fits, fit_idle, fit_leave}
 use Rattle.bb8_core.proofs.Steps.{grants, led, at_view}
-use Rattle.bb8_core.proofs.AtOnce.{between, first_checked, meets_begun_between, meets_served_between}
-use Rattle.bb8_core.proofs.Parts.{both_counted}
+use Rattle.bb8_core.proofs.AtOnce.{between, ledger_between, first_checked, meets_begun_between, meets_served_between}
+use Rattle.std.proofs.Math.Nat.{min-le_left}
+use Rattle.bb8_core.proofs.StepBounds.{both_bounded, one_few}
 use Rattle.bb8_core.proofs.internals.PoolInternals.serve_first.Goals as goal
 
 pub overflow_add-self : goal.overflow_add-self
-overflow_add-self g c = omega (arith, (shown_fits (view_of c.self.inside) c.self.invariant.0).started_few, c.has_room.ensures.number c.if-not-has_room.false)
+overflow_add-self g c = omega (arith, (shown_fits (view_of c.self.inside) c.self.invariant.0).started_few, c.has_capacity.ensures.number c.if-not-has_capacity.false)
 
 pub serve-requires : goal.serve-requires
 serve-requires g c =
     let fit = shown_fits (view_of c.self.inside) c.self.invariant.0 in
-    let few = c.has_room.ensures.number c.if-not-has_room.false in
+    let few = c.has_capacity.ensures.number c.if-not-has_capacity.false in
     record { direct = omega (arith, fit, few); waited = omega (arith, fit, few) }
 
 pub grant-grant-requires : goal.grant-grant-requires
@@ -29,12 +30,11 @@ returns-in-Some-clause-ok g c =
     let fit = fit_idle a (omega (arith, c.if-idle_connections-eq0.false, c.idle_connections.ensures)) in
     let was = c.in-Some.ensures.some.1 in
     let off = ap (λ (n : ℕ). is_checked a.config n (entered_in (get a.records.places c.in-Some.key.number))) (c.max-self-inside.ensures ∙ sym c.max-now.ensures)
-    ∙ sym (c.checks_first.ensures.value _ c.in-Some.ensures.some.0) ∙ c.if-checks_first.false in (
+    ∙ sym (c.checks_first.ensures.value _ c.in-Some.ensures.some.0) ∙ c.if-checks_first.false in
+    let begins = meets_begun_between {s = a} c.args.at.0 c.begin_and_end-get.ensures.number fit c.max-self-inside.ensures (c.has_capacity.ensures.number c.if-not-has_capacity.false) in (
       between a c.max-self-inside.result,
-      at_view c.self.view_is
-          (meets_begun_between c.args.at.0 c.begin_and_end-get.ensures.number
-          fit c.max-self-inside.ensures (c.has_room.ensures.number c.if-not-has_room.false)),
-      at_view refl
+      at_view c.self.view_is c.self.invariant.0 begins,
+      at_view refl (ledger_between c.self.invariant.0 begins)
           (meets_served_between a c.self.inside.counters c.begin_and_end-get.ensures.number off c.max-self-inside.ensures c.in-Some.ensures.some.0
           (grants c.in-Some.ensures.some.2 (c.want_with_handle-wanted.ensures c.self.inside.handles (fit_leave refl c.self.invariant.0 fit)) c.grant-grant.ensures.granted c.grant-grant.ensures.state)
           c.begin_and_end-get.ensures.state refl c.serve.ensures),
@@ -44,13 +44,12 @@ returns-in-Some-clause-ok g c =
 pub invariant_of-self-in-Some : goal.invariant_of-self-in-Some
 invariant_of-self-in-Some g c = (
   let both = returns-in-Some-clause-ok g c in
-      let began = led both.0 c.args.at.0 acts.Begin _ c.self.view_is c.self.invariant.0 both.1 in
-      led _ c.args.at.0 (acts.Try c.begin_and_end-get.result) _ refl began both.2,
+      led _ c.args.at.0 (acts.Try c.begin_and_end-get.result) _ both.2,
   c.self.invariant.1,
 )
 
-pub returns-in-Some-clause-counts : goal.returns-in-Some-clause-counts
-returns-in-Some-clause-counts g c = let s = returns-in-Some-clause-ok g c in both_counted _ c.args.at.0 _ _ _ c.self.view_is c.self.invariant.0 s.1 s.2
+pub returns-in-Some-clause-bounds : goal.returns-in-Some-clause-bounds
+returns-in-Some-clause-bounds g c = let s = returns-in-Some-clause-ok g c in both_bounded _ c.args.at.0 _ _ _ s.1 s.2 c.self.view_is c.end.ensures (omega (arith, one_few, min-le_left)) (omega (arith, one_few, min-le_left))
 
 pub returns-then-checks_first-clause-cause : goal.returns-then-checks_first-clause-cause
 returns-then-checks_first-clause-cause g c =

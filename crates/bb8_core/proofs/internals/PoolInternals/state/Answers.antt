@@ -2,10 +2,10 @@ use Rattle.bb8_core.proofs.Words.{◌≡◌, ℕ, ◌≤◌, sym, subst, ◌∙�
 use Rattle.bb8_ledger.specs.Acts as acts
 use Rattle.bb8_core.proofs.Fitting.{as_shown, shown_fits}
 use Rattle.bb8_core.proofs.Steps.{meets_state, figures_told, led, at_view}
-use Rattle.bb8_core.proofs.Parts.{idle_few}
+use Rattle.bb8_core.proofs.StepBounds.{idle_few}
 use Rattle.bb8_core.proofs.internals.PoolInternals.state.Goals as goal
 
-told_is : (a b c d : ℕ) (x y : Counts) → a ≡ b → c ≡ d → x ≡ y → let told : ℕ → ℕ → Counts → Figures = λ n m z. record { connections = n; idle = m; counts = z } in told a c x ≡ told b d y
+told_is : (a b c d : ℕ) (x y : Counts) → a ≡ b → c ≡ d → x ≡ y → let outcome : ℕ → ℕ → Counts → Figures = λ n m z. record { connections = n; idle = m; counts = z } in outcome a c x ≡ outcome b d y
 told_is a b c d x y connections idle counts = λ i. record { connections = connections i; idle = idle i; counts = counts i }
 
 pub statistics-requires : goal.statistics-requires
@@ -15,10 +15,10 @@ pub returns-clause-figures : goal.returns-clause-figures
 returns-clause-figures g c = λ l means. told_is _ _ _ _ _ _ c.connections.ensures c.idle_connections.ensures c.statistics.ensures ∙ figures_told (view_of c.self.inside) l (as_shown l (sym c.self.view_is) means)
 
 pub returns-clause-step : goal.returns-clause-step
-returns-clause-step g c = at_view c.self.view_is (meets_state c.max-self-inside.ensures (λ l means. returns-clause-figures g c l (as_shown l c.self.view_is means)))
+returns-clause-step g c = at_view c.self.view_is c.self.invariant.0 (meets_state c.max-self-inside.ensures (λ l means. returns-clause-figures g c l (as_shown l c.self.view_is means)))
 
 pub invariant_of-self : goal.invariant_of-self
-invariant_of-self g c = (led _ c.args.at.0 acts.State _ c.self.view_is c.self.invariant.0 (returns-clause-step g c), c.self.invariant.1)
+invariant_of-self g c = (led _ c.args.at.0 acts.State _ (returns-clause-step g c), c.self.invariant.1)
 
 pub returns-clause-size : goal.returns-clause-size
 returns-clause-size g c =

@@ -6,20 +6,21 @@ use Rattle.bb8_ledger.specs.Acts as acts
 use Rattle.bb8_core.proofs.Fitting.{as_shown, shown_record, due_fits, trying_stands, trying_off, ended_few}
 use Rattle.bb8_core.proofs.Runs.{shown_try, unfit_step}
 use Rattle.bb8_core.proofs.Steps.{grants, tries, meets_served, meets_taken, meets_waits_on, meets_waits, due_waiting, led, at_view}
-use Rattle.bb8_core.proofs.Parts.{counted}
+use Rattle.std.proofs.Math.Nat.{min-le_left}
+use Rattle.bb8_core.proofs.StepBounds.{bounded, one_few, reads_none, searched_none}
 use Rattle.bb8_core.proofs.internals.PoolInternals.try_get.Goals as goal
 
 pub returns-then-not-is_trying-clause-step : goal.returns-then-not-is_trying-clause-step
-returns-then-not-is_trying-clause-step g c = unfit_step c.args.at.0 (acts.Try c.args.get.number) c.self.view_is (λ l legal means.
+returns-then-not-is_trying-clause-step g c = unfit_step c.args.at.0 (acts.Try c.args.get.number) c.self.view_is c.self.invariant.0 (λ l legal means.
     let fits = shown_try l (view_of c.self.inside) c.args.get.number (as_shown l (sym c.self.view_is) means) in
     sym (fits ∙ ap (gets_stand is_trying) (sym c.getting-getting.ensures.value) ∙ sym c.is_trying.ensures ∙ c.if-not-is_trying.true))
 
 pub invariant_of-self : goal.invariant_of-self
-invariant_of-self g c = (led _ c.args.at.0 (acts.Try c.args.get.number) _ c.self.view_is c.self.invariant.0 (returns-then-not-is_trying-clause-step g c).0, c.self.invariant.1)
+invariant_of-self g c = (led _ c.args.at.0 (acts.Try c.args.get.number) _ (returns-then-not-is_trying-clause-step g c).0, c.self.invariant.1)
 
 pub returns-then-is_unnotified-clause-step : goal.returns-then-is_unnotified-clause-step
 returns-then-is_unnotified-clause-step g c = (
-  at_view c.self.view_is
+  at_view c.self.view_is c.self.invariant.0
       (meets_waits_on c.max-now.ensures (tries (view_of c.self.inside) c.getting-getting.ensures.value c.is_trying.ensures c.if-not-is_trying.false)
       (sym c.is_unnotified.ensures ∙ c.if-is_unnotified.true)
       (subst (λ (n : ℕ). IsNoGrant n c.of_nothing-nothing.result) c.next_number.ensures c.of_nothing-nothing.ensures)),
@@ -27,7 +28,7 @@ returns-then-is_unnotified-clause-step g c = (
 )
 
 pub invariant_of-self-then-is_unnotified : goal.invariant_of-self-then-is_unnotified
-invariant_of-self-then-is_unnotified g c = (led _ c.args.at.0 (acts.Try c.args.get.number) _ c.self.view_is c.self.invariant.0 (returns-then-is_unnotified-clause-step g c).0, c.self.invariant.1)
+invariant_of-self-then-is_unnotified g c = (led _ c.args.at.0 (acts.Try c.args.get.number) _ (returns-then-is_unnotified-clause-step g c).0, c.self.invariant.1)
 
 pub grant-grant-requires : goal.grant-grant-requires
 grant-grant-requires g c = omega (arith, due_fits (view_of c.self.inside) _ c.self.invariant.0 (omega arith) c.in-None.ensures.none.1 refl c.due_waiting-due.ensures)
@@ -37,7 +38,7 @@ wait-requires g c = record { stands = trying_off c.getting-getting.ensures.value
 
 pub returns-in-None-clause-step : goal.returns-in-None-clause-step
 returns-in-None-clause-step g c = (
-  at_view c.self.view_is
+  at_view c.self.view_is c.self.invariant.0
       (meets_waits c.max-now.ensures (tries (view_of c.self.inside) c.getting-getting.ensures.value c.is_trying.ensures c.if-not-is_trying.false)
       (sym c.is_unnotified.ensures ∙ c.if-is_unnotified.false) c.in-None.ensures.none.0 c.in-None.ensures.none.1
       (due_waiting (view_of c.self.inside) c.in-None.ensures.none.1 c.alive-alive.ensures c.due_waiting-due.ensures) c.grant-grant.ensures.granted c.grant-grant.ensures.state c.wait.ensures.state),
@@ -45,7 +46,7 @@ returns-in-None-clause-step g c = (
 )
 
 pub invariant_of-self-in-None : goal.invariant_of-self-in-None
-invariant_of-self-in-None g c = (led _ c.args.at.0 (acts.Try c.args.get.number) _ c.self.view_is c.self.invariant.0 (returns-in-None-clause-step g c).0, c.self.invariant.1)
+invariant_of-self-in-None g c = (led _ c.args.at.0 (acts.Try c.args.get.number) _ (returns-in-None-clause-step g c).0, c.self.invariant.1)
 
 pub grant-grant-requires-in-Some : goal.grant-grant-requires-in-Some
 grant-grant-requires-in-Some g c = omega (arith, due_fits (view_of c.self.inside) _ c.self.invariant.0 (omega arith) c.in-Some.ensures.some.2 refl c.want-wanted.ensures)
@@ -55,7 +56,7 @@ turn-requires-clause-stands g c = trying_off c.getting-getting.ensures.value c.i
 
 pub returns-then-checked-clause-step : goal.returns-then-checked-clause-step
 returns-then-checked-clause-step g c = (
-  at_view c.self.view_is
+  at_view c.self.view_is c.self.invariant.0
       (meets_taken c.max-now.ensures (tries (view_of c.self.inside) c.getting-getting.ensures.value c.is_trying.ensures c.if-not-is_trying.false)
       (sym c.is_unnotified.ensures ∙ c.if-is_unnotified.false) (sym (c.checks_first-checked.ensures.value _ c.in-Some.ensures.some.0) ∙ c.if-checked.true) c.in-Some.ensures.some.0
       (grants (c.in-Some.ensures.some.2
@@ -66,7 +67,7 @@ returns-then-checked-clause-step g c = (
 )
 
 pub invariant_of-self-then-checked : goal.invariant_of-self-then-checked
-invariant_of-self-then-checked g c = (led _ c.args.at.0 (acts.Try c.args.get.number) _ c.self.view_is c.self.invariant.0 (returns-then-checked-clause-step g c).0, c.self.invariant.1)
+invariant_of-self-then-checked g c = (led _ c.args.at.0 (acts.Try c.args.get.number) _ (returns-then-checked-clause-step g c).0, c.self.invariant.1)
 
 pub returns-then-checked-clause-connection : goal.returns-then-checked-clause-connection
 returns-then-checked-clause-connection g c = λ l legal means.
@@ -84,7 +85,7 @@ serve-requires g c =
 
 pub returns-else-checked-clause-step : goal.returns-else-checked-clause-step
 returns-else-checked-clause-step g c = (
-  at_view c.self.view_is
+  at_view c.self.view_is c.self.invariant.0
       (meets_served c.max-now.ensures c.self.inside.counters (tries (view_of c.self.inside) c.getting-getting.ensures.value c.is_trying.ensures c.if-not-is_trying.false)
       (sym c.is_unnotified.ensures ∙ c.if-is_unnotified.false) (sym (c.checks_first-checked.ensures.value _ c.in-Some.ensures.some.0) ∙ c.if-checked.false) c.in-Some.ensures.some.0
       (grants (c.in-Some.ensures.some.2
@@ -96,18 +97,18 @@ returns-else-checked-clause-step g c = (
 )
 
 pub invariant_of-self-in-Some : goal.invariant_of-self-in-Some
-invariant_of-self-in-Some g c = (led _ c.args.at.0 (acts.Try c.args.get.number) _ c.self.view_is c.self.invariant.0 (returns-else-checked-clause-step g c).0, c.self.invariant.1)
+invariant_of-self-in-Some g c = (led _ c.args.at.0 (acts.Try c.args.get.number) _ (returns-else-checked-clause-step g c).0, c.self.invariant.1)
 
 pub returns-else-checked-clause-connection : goal.returns-else-checked-clause-connection
 returns-else-checked-clause-connection g c = λ l legal means.
     let was = c.in-Some.ensures.some.1 in
     (record { place = Idle c.in-Some.conn; birth = was.0; entered = was.1 }, shown_record l (view_of c.self.inside) (as_shown l (sym c.self.view_is) means) c.in-Some.key.number ∙ was.2, refl)
 
-pub returns-in-None-clause-counts : goal.returns-in-None-clause-counts
-returns-in-None-clause-counts g c = counted _ c.args.at.0 (acts.Try c.args.get.number) _ c.self.view_is c.self.invariant.0 (returns-in-None-clause-step g c).0
+pub returns-in-None-clause-bounds : goal.returns-in-None-clause-bounds
+returns-in-None-clause-bounds g c = bounded _ c.args.at.0 (acts.Try c.args.get.number) _ (returns-in-None-clause-step g c).0 c.self.view_is c.end-in-None.ensures (omega (arith, one_few, min-le_left, reads_none c.none-accesses.ensures)) (omega (arith, one_few, min-le_left, searched_none c.none-accesses.ensures))
 
-pub returns-then-checked-clause-counts : goal.returns-then-checked-clause-counts
-returns-then-checked-clause-counts g c = counted _ c.args.at.0 (acts.Try c.args.get.number) _ c.self.view_is c.self.invariant.0 (returns-then-checked-clause-step g c).0
+pub returns-then-checked-clause-bounds : goal.returns-then-checked-clause-bounds
+returns-then-checked-clause-bounds g c = bounded _ c.args.at.0 (acts.Try c.args.get.number) _ (returns-then-checked-clause-step g c).0 c.self.view_is c.end-then-checked.ensures (omega (arith, one_few, min-le_left, reads_none c.none-accesses.ensures)) (omega (arith, one_few, min-le_left, searched_none c.none-accesses.ensures))
 
-pub returns-else-checked-clause-counts : goal.returns-else-checked-clause-counts
-returns-else-checked-clause-counts g c = counted _ c.args.at.0 (acts.Try c.args.get.number) _ c.self.view_is c.self.invariant.0 (returns-else-checked-clause-step g c).0
+pub returns-else-checked-clause-bounds : goal.returns-else-checked-clause-bounds
+returns-else-checked-clause-bounds g c = bounded _ c.args.at.0 (acts.Try c.args.get.number) _ (returns-else-checked-clause-step g c).0 c.self.view_is c.end-in-Some.ensures (omega (arith, one_few, min-le_left, reads_none c.none-accesses.ensures)) (omega (arith, one_few, min-le_left, searched_none c.none-accesses.ensures))

@@ -5,11 +5,11 @@ use Rattle.bb8_live_tests.proofs.tests.calls.each_call_is_made_once.Given as goa
 abbrev pub ghosts-builds-L-Ledger : goal.ghosts-builds-L-Ledger
 ghosts-builds-L-Ledger g a = record { name = a.blank.name; parts = a.blank.parts }
 
-abbrev pub ghosts-builds-L-Parts : goal.ghosts-builds-L-Parts
-ghosts-builds-L-Parts g a = record { settings = record default_settings { max_size = 2; min_idle = Some 2; test_on_check_out = false; retry_connection = false } }
+abbrev pub ghosts-builds-L-Permits : goal.ghosts-builds-L-Permits
+ghosts-builds-L-Permits g a = record { settings = record default_settings { max_size = 2; min_idle = Some 2; test_on_check_out = false; retry_connection = false } }
 
 abbrev pub ghosts-calls_of_a_pool-L-Ledger : goal.ghosts-calls_of_a_pool-L-Ledger
 ghosts-calls_of_a_pool-L-Ledger g a = record { name = a.blank.name; parts = a.blank.parts }
 
-abbrev pub ghosts-calls_of_a_pool-L-Parts : goal.ghosts-calls_of_a_pool-L-Parts
-ghosts-calls_of_a_pool-L-Parts g a = record { settings = record default_settings { max_size = 2; test_on_check_out = a.checks; connection_timeout = 100; retry_connection = false } }
+abbrev pub ghosts-calls_of_a_pool-L-Permits : goal.ghosts-calls_of_a_pool-L-Permits
+ghosts-calls_of_a_pool-L-Permits g a = record { settings = record default_settings { max_size = 2; test_on_check_out = a.checks; connection_timeout = 100; retry_connection = false } }

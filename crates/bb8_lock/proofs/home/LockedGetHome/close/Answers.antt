@@ -6,5 +6,5 @@ use Rattle.bb8_lock.proofs.home.LockedGetHome.close.Goals as goal
 pub returns-then-not-fits_close : goal.returns-then-not-fits_close
 returns-then-not-fits_close g c =
     let core = c.args.self.now.core in
-    let unfit = unfit_step {s = core} {t = core} {lent = core.lent} c.args.at.0 Close refl c.if-not-fits_close.ensures in
-    (((c.args.self.now.settled, (c.limits.ensures.ledger, unfit.0)), unfit.1), tt, refl)
+    let unfit = unfit_step {s = core} {t = core} {reads = core.reads} c.args.at.0 Close refl c.limits.ensures.ledger.0 c.if-not-fits_close.ensures in
+    (((c.args.self.now.settled, unfit.0), unfit.1), tt, refl)

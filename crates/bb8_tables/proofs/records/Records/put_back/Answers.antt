@@ -13,7 +13,7 @@ use Rattle.bb8_tables.proofs.TablePlaces.{stands_then}
 use Rattle.bb8_tables.proofs.RecordPlaces.{none_shown, some_shown, moments, enter_absent, enter_good, enter_view}
 use Rattle.bb8_tables.proofs.records.Records.put_back.Goals as goal
 
--- whoever has a connection, it is out
+-- a connection with a holder is checked out
 with_out : {C : Type 0} (h : Holder) (p : Place C) → is_with h p ≡ true → is_out p ≡ true
 with_out Guard p e = guarded_out p e
 with_out (Get g) Unclaimed e = cc
@@ -51,7 +51,7 @@ returns-then-is_closing-clause-err g c =
     let f = c.in-Some.ensures.some in
     let born = ap birth_in (some_shown c.self.inside c.args.k.number c.in-Some.place f.0 c.at.result.now c.args.self.now c.self.invariant c.self.view_is f.1 f.2 (sym c.at.ensures.value)) in (
       refl,
-      ap (λ n. ltb c.args.greatest_age (c.args.now - n)) (sym born),
+      ap (λ n. ltb c.args.max_age (c.args.now - n)) (sym born),
       sym c.is_closing.ensures ∙ c.if-is_closing.true,
       refl,
     )
@@ -82,7 +82,7 @@ returns-else-is_closing-clause-ok g c =
     let f = c.in-Some.ensures.some in
     let was = subst (λ (o : Option (Slot (Standing g.row.C.Denot))). IfSome o (λ x. is_out x.standing.place ≡ true)) (sym c.at.ensures.value ∙ f.1) (with_out c.args.holder _ (sym c.is_with.ensures ∙ c.if-not-is_with.false)) in
     let born = ap birth_in (some_shown c.self.inside c.args.k.number c.in-Some.place f.0 c.at.result.now c.args.self.now c.self.invariant c.self.view_is f.1 f.2 (sym c.at.ensures.value)) in (
-      ap (λ n. c.args.broken || (ltb c.args.greatest_age (c.args.now - n) || c.args.ended)) born
+      ap (λ n. c.args.broken || (ltb c.args.max_age (c.args.now - n) || c.args.ended)) born
           ∙ sym c.is_closing.ensures ∙ c.if-is_closing.false,
       enter_view c.self.inside false c.in-Some.place c.args.k.number f.0 (record { place = Idle c.args.conn; birth = c.at.result.now.standing.birth; entered = c.args.now })
           c.replace.new.self c.line_up.new.self c.self.invariant f.1 was f.2 refl c.replace.ensures.changed c.line_up.ensures

@@ -1,5 +1,5 @@
 use Rattle.std.proofs.Common.{arith, refl, ◌∙◌}
-use Rattle.bb8_tables.proofs.ReapWalks.{births_start, births_member, births_stands, births_out, births_aged, none_ahead, none_more, none_after, lent_at_most}
+use Rattle.bb8_tables.proofs.ReapWalks.{births_start, births_member, births_stands, births_out, births_aged, none_ahead, none_more, none_after, reads_at_most}
 use Rattle.bb8_tables.proofs.records.Records.reap_aged.Goals as goal
 use Rattle.bb8_tables.proofs.records.Records.reap_aged.Goals.{in-Out, in-Aged}
 
@@ -23,19 +23,19 @@ pub returns-after-loop-clause-none_left : goal.returns-after-loop-clause-none_le
 returns-after-loop-clause-none_left g c = none_more c.loop.invariant c.loop-test.false
 
 pub returns-after-loop-clause-examined : goal.returns-after-loop-clause-examined
-returns-after-loop-clause-examined g c = let m = lent_at_most c.loop.invariant in (m.0, omega (arith, m.1), omega (arith, m.2))
+returns-after-loop-clause-examined g c = let m = reads_at_most c.loop.invariant in (m.0, omega (arith, m.1), omega (arith, m.2))
 
 pub returns-in_default-clause-none_left : goal.returns-in_default-clause-none_left
 returns-in_default-clause-none_left g c = none_ahead c.loop.invariant c.in_default.is
 
 pub returns-in_default-clause-examined : goal.returns-in_default-clause-examined
-returns-in_default-clause-examined g c = let m = lent_at_most c.loop.invariant in (m.0, omega (arith, m.1), omega (arith, m.2))
+returns-in_default-clause-examined g c = let m = reads_at_most c.loop.invariant in (m.0, omega (arith, m.1), omega (arith, m.2))
 
 pub returns-in-Young-clause-none_left : goal.returns-in-Young-clause-none_left
 returns-in-Young-clause-none_left g c = none_after (rw c.in-Some.is at c.loop.invariant) c.in-Young.ensures.value
 
 pub returns-in-Young-clause-examined : goal.returns-in-Young-clause-examined
 returns-in-Young-clause-examined g c =
-    let m = lent_at_most c.loop.invariant in
+    let m = reads_at_most c.loop.invariant in
     let l = c.in-Young.ensures.examined in
     (l.0 ∙ m.0, omega (arith, m.1, l.1), omega (arith, m.2, l.2))

@@ -11,5 +11,5 @@ returns-in-Ok-clause-steps g c =
 
 pub returns-clause-steps : goal.returns-clause-steps
 returns-clause-steps g c =
-    let came = subst (λ x. GivesBack x) c.in-Err.ensures.refused (c.in-Err.refused.taken.part, c.drop.ensures) in
+    let came = subst (λ x. GivesBack x) c.in-Err.ensures.refused (c.in-Err.refused.taken.permit, c.drop.ensures) in
     (c.poll.result, c.poll.new.self, c.poll.ensures.table, rw (c.in-Ready-Ok.is, c.in-Ready-Ok.field-0-is) (inr (refl, refl, came)))

@@ -1,6 +1,6 @@
 use Rattle.std.proofs.Common.{Ok, Err, refl, subst}
 use Rattle.futures.specs.declared.task.Poll.TheVariants.{Ready, Pending}
-use Rattle.bb8_lock.specs.Chains.{Answers}
+use Rattle.bb8_lock.specs.Traces.{Answers}
 use Rattle.bb8_lock.specs.Scope.{OwnPolls}
 use Rattle.bb8.proofs.get.future.GetFutureFuture.poll.Goals as goal
 

@@ -1,0 +1,48 @@
+use Rattle.bb8_core.proofs.Words.{refl, sym, ap, ◌∙◌, ◌+◌, ◌≤◌, arith, stands, is_idle, Idle, RecordsView, view_of}
+use Rattle.bb8_ledger.specs.Acts as acts
+use Rattle.bb8_core.proofs.Fitting.{as_shown, shown_record, fits_at, unfit_at, evicted_few, due_fits}
+use Rattle.bb8_core.proofs.Runs.{unfit_records}
+use Rattle.bb8_core.proofs.Steps.{meets_evicted, grants, led, at_view}
+use Rattle.std.proofs.Math.Nat.{min-le_left}
+use Rattle.bb8_core.proofs.StepBounds.{bounded, one_few, reads_none, searched_none}
+use Rattle.bb8_core.proofs.internals.PoolInternals.evict.Goals as goal
+
+pub returns-in-None-clause-step : goal.returns-in-None-clause-step
+returns-in-None-clause-step g c = unfit_records c.args.at.0 (acts.Evict c.args.k.number) c.self.view_is c.self.invariant.0
+    (unfit_at (view_of c.self.inside) is_idle c.args.k.number c.in-None.ensures.none.0) c.in-None.ensures.none.1
+
+pub grant-grant-requires : goal.grant-grant-requires
+grant-grant-requires g c =
+    let fewer : c.evict.new.self.conns + c.evict.new.self.approved ≤ c.self.inside.records.conns + c.self.inside.records.approved =
+    omega (arith, ap (λ (s : RecordsView g.row.C.Denot). s.conns + s.approved) c.in-Some.ensures.some.1) in
+    omega (arith, due_fits (view_of c.self.inside) {taken = c.evict.new.self} _ c.self.invariant.0 fewer refl refl c.want-wanted.ensures)
+
+pub detach-requires : goal.detach-requires
+detach-requires g c =
+    let was = c.in-Some.ensures.some.0 in
+    omega (arith, evicted_few c.args.k.number (view_of c.self.inside) c.self.invariant.0 (record { place = Idle c.in-Some.conn; birth = was.0; entered = was.1 }, was.2, refl) c.in-Some.ensures.numbers)
+
+pub returns-in-Some-clause-step : goal.returns-in-Some-clause-step
+returns-in-Some-clause-step g c = (
+  at_view c.self.view_is c.self.invariant.0
+      (meets_evicted c.self.inside.counters c.max-self-inside.ensures
+      (fits_at (view_of c.self.inside) is_idle c.args.k.number (ap (stands is_idle) c.in-Some.ensures.some.0.2))
+      (record { who = c.notify-notified.ensures.value; after = c.notify-notified.ensures.state })
+      c.in-Some.ensures.some.1
+      (grants refl c.want-wanted.ensures c.grant-grant.ensures.granted c.grant-grant.ensures.state) refl c.detach.ensures),
+  tt,
+)
+
+pub returns-in-Some-clause-connection : goal.returns-in-Some-clause-connection
+returns-in-Some-clause-connection g c = λ l legal means.
+    let was = c.in-Some.ensures.some.0 in (
+      record { place = Idle c.in-Some.conn; birth = was.0; entered = was.1 },
+      shown_record l (view_of c.self.inside) (as_shown l (sym c.self.view_is) means) c.args.k.number ∙ was.2,
+      refl,
+    )
+
+pub invariant_of-self-in-Some : goal.invariant_of-self-in-Some
+invariant_of-self-in-Some g c = (led _ c.args.at.0 (acts.Evict c.args.k.number) _ (returns-in-Some-clause-step g c).0, c.self.invariant.1)
+
+pub returns-in-Some-clause-bounds : goal.returns-in-Some-clause-bounds
+returns-in-Some-clause-bounds g c = bounded _ c.args.at.0 (acts.Evict c.args.k.number) _ (returns-in-Some-clause-step g c).0 c.self.view_is c.end.ensures (omega (arith, one_few, min-le_left, reads_none c.none-accesses.ensures)) (omega (arith, one_few, min-le_left, searched_none c.none-accesses.ensures))

@@ -1,0 +1,7 @@
+//! A pool's tasks, against values that were worked out by hand.
+
+mod polls;
+mod reaper;
+mod replays;
+
+use super::{MILLI, assert_equal};

@@ -1,0 +1,42 @@
+//! The number of calls that a poll of an attempt of `Blocking` makes, which no clause states.
+
+use bb8::{Blocking, BlockingManager, ManageConnection, Moment};
+use futures::task::Poll;
+use std::convert::Infallible;
+use std::sync::atomic::{AtomicU64, Ordering};
+
+/// Opens the connections 0, 1, 2 and so on.
+#[derive(Drop)]
+struct Numbers {
+    next: AtomicU64,
+}
+
+impl BlockingManager for Numbers {
+    type Connection = u64;
+
+    type Error = Infallible;
+
+    fn connect(&self) -> Result<u64, Infallible> {
+        Ok(self.next.fetch_add(1, Ordering::SeqCst))
+    }
+
+    fn is_valid(&self, _connection: &mut u64) -> Result<(), Infallible> {
+        Ok(())
+    }
+
+    fn has_broken(&self, _connection: &mut u64) -> bool {
+        false
+    }
+}
+
+#[test]
+fn each_poll_opens_once(rt: HostRuntime) {
+    let manager = Blocking(Numbers {
+        next: AtomicU64::new(0),
+    });
+    for number in 0..3u64 {
+        manager.connect();
+        let polled = manager.poll_connect(&mut (), Moment(0));
+        assert!(&rt; matches!(polled, Poll::Ready(Ok(opened)) if opened == number));
+    }
+}

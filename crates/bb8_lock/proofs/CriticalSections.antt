@@ -1,0 +1,99 @@
+-- What holds of the sections of a pool.
+use Rattle.bb8_lock.proofs.Words.{◌≡◌, ℕ, ◌+◌, ◌^◌, ◌<◌, length, Bool, true, false, refl, sym, ap, subst, ◌∙◌, arith, Settings, Ledger, next, records, answer_of_add, fits}
+use Rattle.std.specs.Prelude.{not, eqb, ltb}
+use Rattle.std.proofs.Common.{IfOk, Result, Ok, Err}
+use Rattle.std.proofs.lemmas.Bool.Decides.{nat_tests}
+use Rattle.bb8_ledger.specs.Ledger.{handles}
+use Rattle.bb8_core.specs.declared.answers.AddAnswer.{AddAnswer}
+use Rattle.bb8_core.specs.declared.answers.AddAnswer.TheVariants as adding
+use Rattle.bb8_core.specs.declared.answers.Started.TheVariants as starting
+use Rattle.bb8_core.specs.declared.answers.Unfit.{Unfit as Refused}
+use Rattle.bb8_core.specs.declared.answers.TryAnswer.{TryAnswer}
+use Rattle.bb8_core.specs.StepAnswers.{Starts}
+use Rattle.bb8_gets.specs.declared.home.FirstTry.{FirstTry}
+use Rattle.bb8_gets.specs.declared.home.FirstTry.TheVariants as first
+use Rattle.bb8_gets.specs.declared.home.Tried.{Tried}
+use Rattle.bb8_gets.specs.Homes.{StepsIn}
+use Rattle.bb8_gets.specs.Steps.{IsSorted, StartsBy}
+use Rattle.bb8_gets.specs.Outcomes.{in_core}
+use Rattle.bb8_tables.specs.declared.keys.GetKey.{GetKey}
+use Rattle.bb8_types.specs.declared.api.configuration.Config.{Config}
+use Rattle.bb8_types.specs.declared.api.moments.Moment.{Moment}
+use Rattle.bb8_types.specs.declared.grants.Grant.{Grant}
+use Rattle.bb8_ledger.specs.Acts.{Act, Begin, Fill, Add, Leave}
+use Rattle.bb8_ledger.specs.Answers.{Answer, Begun, Broken, Exhausted, Granted, Memory, Unfit}
+use Rattle.bb8_ledger.specs.Table.{Allowed, Row, fills, add_broken}
+use Rattle.bb8_core.specs.StateView.{StateView, HasLedger, IsAsBefore, IsWithinLimits, Steps, ReportsFitting}
+use Rattle.bb8_core.specs.Unfit.{answered}
+use Rattle.bb8_core.specs.Run.{opening}
+use Rattle.bb8_core.proofs.Fitting.{meets_still}
+use Rattle.bb8_core.proofs.StepBounds.{config_kept}
+use Rattle.bb8_ledger.proofs.Effects.{by_fit}
+
+-- an answer that a connection was refused as broken
+abbrev refuses_broken : Answer → Bool
+refuses_broken Broken = true
+refuses_broken _ = false
+
+no_fewer : (n : ℕ) → not (ltb 0 n) ≡ eqb n 0
+no_fewer n = grind (arith, nat_tests)
+
+module _ {C : Type 0} where
+  -- a handle that cannot leave is none
+  pub none_left : (s : StateView C) (fitting : Bool) → HasLedger s → ReportsFitting s Leave fitting → not fitting ≡ eqb s.handles 0
+  none_left s fitting (l, legal, means) reports =
+      ap not (reports l legal means) ∙ (no_fewer (handles l) ∙ ap (λ (t : StateView C). eqb t.handles 0) means)
+
+  -- a get that begins and tries does both in a state of these settings
+  pub starts_in : {P : Type 0} (old new : StateView C) {settings : Settings} (at : Moment) (g : GetKey) (t : Tried C P) {outcome : TryAnswer C} → in_core t ≡ outcome
+      → old.config ≡ settings → Starts old at.0 (starting.Tried g outcome) new
+      → StartsBy (StepsIn settings) old at.0 (Ok (first.Tried g t)) new
+  starts_in old new {settings} at g t is same starts =
+      let s = subst (λ (q : TryAnswer C). Starts old at.0 (starting.Tried g q) new) (sym is) starts in
+      (s.0, (same, s.1), (config_kept s.0 at.0 Begin (Begun g.number) s.1 ∙ same, s.2), s.3)
+
+  -- a start from a state as before, but for the count of accesses, is one from the former state
+  step_still : (settings : Settings) {old mid : StateView C} (new : StateView C) (at : ℕ) (e : Act C) (a : Answer) → IsAsBefore old mid → IsWithinLimits old
+      → StepsIn settings mid at e a new → StepsIn settings old at e a new
+  step_still settings new at e a same limits (config, (_, meets)) = (sym (ap (λ (s : StateView C). s.config) same) ∙ config, (limits, meets_still new at e a same meets))
+
+  pub starts_still : {P : Type 0} (settings : Settings) (old mid new : StateView C) (at : ℕ) (r : Result (FirstTry C P) Refused) → IsAsBefore old mid → IsWithinLimits old
+      → StartsBy (StepsIn settings) mid at r new → StartsBy (StepsIn settings) old at r new
+  starts_still settings old mid new at (Ok (first.Tried g t)) same limits (between, begins, tries, out) =
+      (between, step_still settings between at Begin (Begun g.number) same limits begins, tries, out)
+  starts_still settings old mid new at (Ok first.Memory) same limits begins = step_still settings new at Begin Memory same limits begins
+  starts_still settings old mid new at (Ok first.Exhausted) same limits begins = step_still settings new at Begin Exhausted same limits begins
+  starts_still settings old mid new at (Err u) same limits (begins, as_mid) =
+      (step_still settings new at Begin Unfit same limits begins, as_mid ∙ ap (λ (s : StateView C). record s { reads = new.reads }) same)
+
+  -- an adding is refused as broken just where the connection is broken
+  add_row : (l : Ledger C) (at : ℕ) (c : C) (b : Bool) (a : Answer) → Row l at (Add c b) a → refuses_broken a ≡ b
+  add_row l at c _ _ add_broken = refl
+  add_row l at c _ _ _ = refl
+
+  sorted_as : (answer : AddAnswer C) (b : Bool) → refuses_broken (answer_of_add answer) ≡ b → IsSorted b answer
+  sorted_as (adding.Broken c) b is = sym is
+  sorted_as _ b is = sym is
+
+  adds_fit : (answer : AddAnswer C) (P : Type 0) → answer_of_add answer ≡ Unfit → P
+  adds_fit (adding.Added k n) P is = cc
+  adds_fit (adding.Broken c) P is = cc
+  adds_fit (adding.NoCapacity c) P is = cc
+  adds_fit (adding.Withheld c) P is = cc
+
+  pub add_sorted : {old new : StateView C} (at : ℕ) (c : C) (b : Bool) (r : Result (AddAnswer C) C)
+      → Steps old at (Add c b) (answered answer_of_add r) new → IfOk r (IsSorted b)
+  add_sorted at c b (Err same) s = tt
+  add_sorted at c b (Ok answer) s =
+      sorted_as answer b
+      (let h = s.0.0 in by_fit (fits h.0 (Add c b)) _ _ (refuses_broken (answer_of_add answer) ≡ b) (s.1 h.0 h.1 h.2).0
+      (λ f row. add_row h.0 at c b (answer_of_add answer) row)
+      (λ f is. adds_fit answer (refuses_broken (answer_of_add answer) ≡ b) is))
+
+  -- what a new pool is granted for its first connections has numbers that a u64 can be
+  pub first_numbers : (config : Config) (at : ℕ) (claimed : Bool) (grant : Grant) → Allowed {C = C} (opening config 0 0) at (Fill claimed) (Granted grant)
+      → grant.first + grant.count < 2 ^ 64
+  first_numbers config at claimed grant allowed = filled (opening config 0 0) allowed refl refl
+    where
+      filled : (l : Ledger C) → Row l at (Fill claimed) (Granted grant) → next l ≡ 0 → length (records l) ≡ 0 → grant.first + grant.count < 2 ^ 64
+      filled l (fills want) none empty = let first = want.first in let most = want.most in omega arith
