@@ -79,11 +79,11 @@ module _ {C : Type 0} where
   moved_out l at e a legal allowed = each_allowed (λ b. out (Later l at e b) + coming e b ≡ out l + going e b) l at e a allowed (unfit_moves e (out l)) (row_moves l at e a legal)
 
   -- the settings stay, and so many connections are checked out and returned
-  record IsCounted (old : StateView C) (out_now back : ℕ) (new : StateView C) : Type 0 where
-    config : new.config ≡ old.config
-    moves : out_of new + back ≡ out_of old + out_now
+  pub record IsCounted (old : StateView C) (out_now back : ℕ) (new : StateView C) : Type 0 where
+    pub config : new.config ≡ old.config
+    pub moves : out_of new + back ≡ out_of old + out_now
 
-  counted_at : (l : Ledger C) (at : ℕ) (e : Act C) (a : Answer) (reads reads_now : AccessCount) → IsLegal l → Allowed l at e a
+  pub counted_at : (l : Ledger C) (at : ℕ) (e : Act C) (a : Answer) (reads reads_now : AccessCount) → IsLegal l → Allowed l at e a
       → IsCounted (shown_beside reads l) (going e a) (coming e a) (shown_beside reads_now (Later l at e a))
   counted_at l at e a reads reads_now legal allowed = record {
     config = refl;

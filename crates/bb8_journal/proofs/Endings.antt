@@ -1,5 +1,5 @@
 -- How many ending events may still come, step by step.
-use Rattle.bb8_journal.proofs.Words.{◌≡◌, ℕ, ◌+◌, ◌<◌, ◌≤◌, max, Bool, true, false, ◌&&◌, ltb, is_some, refl, sym, ap, ◌∙◌, subst, arith, nat_tests, ReplayAnswer, Act, Ledger, Later, start, position, latest, handles, gets, alive, get_of, new_get, Row, begins, waits_on, serves, takes_out, waits, checks, check_fails, gives_up, gives_up_kept, gives_up_closed, keeps, returns_closed, detaches, evicts, opens, adds, leaves, shuts, fits, Allowed, IsLegal, and_right, StateView, HasLedger, act_of, answer_of, Happens, IsTaken, endings_of, unfit_now}
+use Rattle.bb8_journal.proofs.Words.{◌≡◌, ℕ, ◌+◌, ◌<◌, ◌≤◌, max, Bool, true, false, ◌&&◌, ltb, is_some, refl, sym, ap, ◌∙◌, subst, arith, nat_tests, ReplayAnswer, no_accesses, Act, Ledger, Later, start, position, latest, handles, gets, alive, get_of, new_get, Row, begins, waits_on, serves, takes_out, waits, checks, check_fails, gives_up, gives_up_kept, gives_up_closed, keeps, returns_closed, detaches, evicts, opens, adds, leaves, shuts, fits, Allowed, IsLegal, and_right, StateView, HasLedger, act_of, answer_of, Happens, IsTaken, endings_of, unfit_now}
 use Rattle.bb8_core.specs.declared.replay.events.Act.{Act as Named}
 use Rattle.bb8_core.specs.declared.replay.events.Act.TheVariants as named
 use Rattle.bb8_ledger.specs.Answers.{Answer}
@@ -9,8 +9,7 @@ use Rattle.bb8_ledger.proofs.Effects.{by_fit}
 use Rattle.bb8_ledger.proofs.GetEffects.{given_up_sums, trier_leaves, trier_holds, holder_ends, holder_turns, left_alive, left_told_alive}
 use Rattle.bb8_core.proofs.Fitting.{shown}
 use Rattle.bb8_core.specs.StepBounds.{out_of}
-use Rattle.bb8_core.proofs.StepBounds.{going, coming}
-use Rattle.bb8_journal.proofs.Moves.{moves_shown}
+use Rattle.bb8_core.proofs.StepBounds.{going, coming, counted_at}
 use Rattle.bb8_journal.specs.Endings.{is_ending, is_named_ending, CountsDown}
 
 -- a handle is alive
@@ -53,7 +52,7 @@ module _ {C : Type 0} where
   ends_at l at e a legal allowed =
       by_fit (fits l e) _ _ (CountsDown (fits l e && is_ending e) (endings_of (shown l)) (endings_of (shown (Later l at e a)))) allowed
       (λ t row. subst (λ (b : Bool). CountsDown (b && is_ending e) (endings_of (shown l)) (endings_of (shown (Later l at e a)))) (sym t)
-      (row_ends l at e a (out_of (shown l)) (out_of (shown (Later l at e a))) t row (moves_shown l at e a legal allowed)))
+      (row_ends l at e a (out_of (shown l)) (out_of (shown (Later l at e a))) t row (counted_at l at e a no_accesses no_accesses legal allowed).moves))
       (λ t is. subst (λ (b : Bool). CountsDown (b && is_ending e) (endings_of (shown l)) (endings_of (shown (Later l at e a)))) (sym t)
       (let same : endings_of (shown (Later l at e a)) ≡ endings_of (shown l) =
       ap (λ (b : Answer). endings_of (shown (Later l at e b))) is ∙ ap endings_of (unfit_now l (shown l) at e t refl).1 in omega arith))

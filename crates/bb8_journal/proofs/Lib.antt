@@ -1,5 +1,4 @@
 pub mod Endings
-mod Moves
 pub mod Histories
 pub mod Accounts
 mod Words

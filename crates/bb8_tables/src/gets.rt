@@ -222,7 +222,7 @@ impl Gets {
     }
 
     /// Adds a get with the next number that waits at once, since `now`. Memory must be reserved.
-    // Saves 8 instructions of a pair.
+    // Inlining saves 8 instructions of a pair.
     #[inline(always)]
     pub fn bear_waiting(&mut self, now: u64, accesses: &mut AccessCounter) -> GetKey
         requires room { self.old.alive < self.old.peak }
@@ -323,7 +323,7 @@ impl Gets {
     }
 
     /// Notifies the longest waiter that was not notified, and returns it.
-    // Saves 14 instructions of a pair.
+    // Inlining saves 14 instructions of a pair.
     #[inline(always)]
     pub fn notify(&mut self, accesses: &mut AccessCounter) -> Option<GetKey>
         ensures value { notified_of result ≡ slice_get self.old.waiting 0 }
@@ -369,7 +369,7 @@ impl Gets {
 
     /// Ends a get that is alive and holds nothing, and returns its last state. Returns None and
     /// changes nothing if there is no such get. Looks it up once.
-    // Saves 32 instructions of a cancelled get.
+    // Inlining saves 32 instructions of a cancelled get.
     #[inline(always)]
     pub fn end(&mut self, g: GetKey, accesses: &mut AccessCounter) -> Option<Getting>
         ensures some { IfSome result (λ x. (map.get self.old.places g.number ≡ Some x)
@@ -395,7 +395,7 @@ impl Gets {
     }
 
     /// Ends a get that is alive and in no queue.
-    // Saves 11 instructions of a waiting get.
+    // Inlining saves 11 instructions of a waiting get.
     #[inline(always)]
     pub fn finish(&mut self, g: GetKey, accesses: &mut AccessCounter)
         requires { (x : Getting) × (map.get self.old.places g.number ≡ Some x)
@@ -415,7 +415,7 @@ impl Gets {
 
     /// Ends a get that holds a connection. Returns that connection's number and the moment of the
     /// get's first wait. Returns None and changes nothing if it holds none. Looks it up once.
-    // Saves 30 instructions of a pair.
+    // Inlining saves 30 instructions of a pair.
     #[inline(always)]
     pub fn finish_holding(
         &mut self,
@@ -460,7 +460,7 @@ impl Gets {
     }
 
     /// Returns the state of a get, None if it is not alive.
-    // Saves 23 instructions of a waiting get.
+    // Inlining saves 23 instructions of a waiting get.
     #[inline(always)]
     pub fn getting(&self, g: GetKey, accesses: &mut AccessCounter) -> Option<Getting>
         ensures value { result ≡ map.get self.now.places g.number }

@@ -250,7 +250,7 @@ impl<C: Drop> Records<C> {
     }
 
     /// Checks out the first idle connection to this holder.
-    // Saves 42 instructions of a pair.
+    // Inlining saves 42 instructions of a pair.
     #[inline(always)]
     pub fn take(
         &mut self,
@@ -353,7 +353,7 @@ impl<C: Drop> Records<C> {
     /// that, or the pool has ended. Returns `Err` with the connection and changes nothing if it is
     /// not checked out by this holder. No birth and no entry may be later than `now`. Looks the
     /// connection up once.
-    // Saves 43 instructions of a pair.
+    // Inlining saves 43 instructions of a pair.
     #[inline(always)]
     pub fn put_back(
         &mut self,

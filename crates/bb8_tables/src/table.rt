@@ -358,7 +358,7 @@ impl<S: Drop + Vacant> Table<S> {
     }
 
     /// Frees an entry that is not in the queue, and returns it.
-    // Saves 20 instructions of a pair.
+    // Inlining saves 20 instructions of a pair.
     #[inline(always)]
     pub fn release(&mut self, place: usize) -> Slot<S>
         requires stands { IsSome (slot_at self.old place) }
@@ -381,7 +381,7 @@ impl<S: Drop + Vacant> Table<S> {
     }
 
     /// Frees an entry and returns its number.
-    // Saves 17 instructions of a cancelled get.
+    // Inlining saves 17 instructions of a cancelled get.
     #[inline(always)]
     pub fn remove(&mut self, place: usize) -> u64
         requires { IsSome (slot_at self.old place) }
@@ -408,7 +408,7 @@ impl<S: Drop + Vacant> Table<S> {
     }
 
     /// Adds an empty entry. It is free, except for the one at index 0.
-    // Saves 22 instructions of a waiting get.
+    // Inlining saves 22 instructions of a waiting get.
     #[inline(always)]
     fn add_place(&mut self) -> Result<(), AllocError>
         ensures ok { OnOk result (self.new ≡ record self.old {

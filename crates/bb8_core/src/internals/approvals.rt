@@ -16,7 +16,7 @@ impl<C: Drop, A> PoolInternals<C, A> {
     /// are claimed at once if `claimed` is set.
     pub fn fill(&mut self, at: Moment, claimed: bool) -> Grant
         ensures step { Steps self.old at.0 (acts.Fill claimed) (answers.Granted result) self.new }
-        ensures bounds { IsBounded 0 0 4 0 self.old self.new }
+        ensures bounds { IsBounded 0 0 0 0 self.old self.new }
     {
         self.latest = self.latest.max(at.0);
         self.accesses.end(AccessCounter::none());
@@ -29,7 +29,7 @@ impl<C: Drop, A> PoolInternals<C, A> {
     /// itself.
     pub fn ask(&mut self, at: Moment) -> Grant
         ensures step { Steps self.old at.0 acts.Ask (answers.Granted result) self.new }
-        ensures bounds { IsBounded 0 0 4 0 self.old self.new }
+        ensures bounds { IsBounded 0 0 0 0 self.old self.new }
     {
         self.latest = self.latest.max(at.0);
         self.accesses.end(AccessCounter::none());

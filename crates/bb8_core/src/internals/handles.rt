@@ -22,7 +22,7 @@ impl<C: Drop, A> PoolInternals<C, A> {
             → figures_of result ≡ ledger.figures l }
         ensures size { result.connections ≤ self.old.config.max_size }
         ensures idle { result.idle_connections ≤ result.connections }
-        ensures bounds { IsBounded 0 0 4 0 self.old self.new }
+        ensures bounds { IsBounded 0 0 0 0 self.old self.new }
     {
         self.latest = self.latest.max(at.0);
         self.accesses.end(AccessCounter::none());
@@ -36,7 +36,7 @@ impl<C: Drop, A> PoolInternals<C, A> {
     /// Adds a handle, if fewer than 4,294,967,295 are alive. If none is, nothing changes.
     pub fn join(&mut self, at: Moment) -> Result<JoinAnswer, Unfit>
         ensures step { Stepped Steps answer_of_join self.old at.0 acts.Join result self.new }
-        ensures bounds { IsBounded 0 0 4 0 self.old self.new }
+        ensures bounds { IsBounded 0 0 0 0 self.old self.new }
     {
         if !self.fits_join() {
             self.accesses.end_unfit(AccessCounter::none());
@@ -117,7 +117,7 @@ impl<C: Drop, A> PoolInternals<C, A> {
     /// Returns the effective moment, and whether a handle is alive.
     pub fn look(&mut self, at: Moment) -> Looked
         ensures step { Steps self.old at.0 acts.Look (answer_of_look result) self.new }
-        ensures bounds { IsBounded 0 0 4 0 self.old self.new }
+        ensures bounds { IsBounded 0 0 0 0 self.old self.new }
     {
         self.latest = self.latest.max(at.0);
         self.accesses.end(AccessCounter::none());

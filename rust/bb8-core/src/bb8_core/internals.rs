@@ -110,7 +110,7 @@ impl<C, A> PoolInternals<C, A> {
     /// Otherwise it returns None and changes nothing: that connection must be checked, none is
     /// idle, no number is left, or as many gets are alive as ever were. While no handle is alive,
     /// none is idle.
-    // Saves 49 instructions of an unchecked pair.
+    // Inlining saves 49 instructions of an unchecked pair.
     #[inline(always)]
     pub fn serve_at_once(&mut self, at: Moment) -> Option<AtOnce<C>> {
         self.limits();
@@ -125,7 +125,7 @@ impl<C, A> PoolInternals<C, A> {
 
     /// Does what `serve_at_once` does, in a step with this access counter. If nothing changes, it
     /// returns the counter.
-    // Saves 53 instructions of an unchecked pair.
+    // Inlining saves 53 instructions of an unchecked pair.
     #[inline(always)]
     fn serve_first(
         &mut self,
@@ -167,7 +167,7 @@ impl<C, A> PoolInternals<C, A> {
     /// Begins a get and lets it try, as `begin` and `try_get` would, in one step. A get that is
     /// served leaves no entry. Any other is added in its final state, without a lookup. If no
     /// handle is alive, nothing changes.
-    // Saves 37 instructions of a pair.
+    // Inlining saves 37 instructions of a pair.
     #[inline(always)]
     pub fn start(&mut self, at: Moment) -> Result<Started<C>, Unfit> {
         if !self.fits_begin() {
@@ -178,7 +178,7 @@ impl<C, A> PoolInternals<C, A> {
     }
 
     /// Does what `start` does, while a handle is alive.
-    // Saves 51 instructions of a pair.
+    // Inlining saves 51 instructions of a pair.
     #[inline(always)]
     fn start_fitting(&mut self, at: Moment) -> Started<C> {
         let mut accesses = AccessCounter::none();
@@ -233,7 +233,7 @@ impl<C, A> PoolInternals<C, A> {
     /// If none is idle, the get waits from now on, and one approval is granted if there are more
     /// gets than open approvals. For a waiter that was not notified only the latest moment changes.
     /// Memory is requested only for approvals. If the get may not try, nothing changes.
-    // Saves 40 instructions of a waiting get.
+    // Inlining saves 40 instructions of a waiting get.
     #[inline(always)]
     pub fn try_get(&mut self, at: Moment, get: GetKey) -> Result<TryAnswer<C>, Unfit> {
         let mut accesses = AccessCounter::none();
@@ -283,7 +283,7 @@ impl<C, A> PoolInternals<C, A> {
     /// Serves a get with the connection that it holds, because its check passed. A guard holds the
     /// connection from now on. `hint` is the index in its key; it may be stale, and changes no
     /// result. If the get holds none, nothing changes. The get is looked up once.
-    // Saves 28 instructions of a pair.
+    // Inlining saves 28 instructions of a pair.
     #[inline(always)]
     pub fn checked_ok(
         &mut self,
