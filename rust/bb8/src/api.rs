@@ -74,7 +74,8 @@ impl<M: ManageConnection> Pool<M> {
 
     /// Retires all connections: idle ones are closed now, checked-out ones when they are returned,
     /// and those of attempts in progress once they are open. So no get is handed an old connection
-    /// from then on. Exception: a get that is already checking one.
+    /// from then on. Exception: one that is already checking one, or was handed one
+    /// ([`Builder::fair_after`](crate::Builder::fair_after)) and not polled since.
     ///
     /// Connections that `min_idle` requires, or that gets wait for, are opened anew, others when a
     /// get needs them.
@@ -110,10 +111,11 @@ impl<M: ManageConnection> Pool<M> {
     /// Closes the pool for all its handles, and resolves once all its connections are dropped.
     ///
     /// When it is first polled, waiting gets return [`RunError::Closed`](crate::RunError::Closed)
-    /// and count in `get_cancelled`. Every later get returns it, too. Idle connections are dropped,
-    /// and attempts in progress end. Checked-out connections are dropped when they are returned. It
-    /// waits for them, so call it without a guard in the same task, or limit it by a timeout. If it
-    /// is dropped, the pool stays closed.
+    /// and count in `get_cancelled`. Every later get returns it, too; one that is checking a
+    /// connection may still return that. Idle connections are dropped, and attempts in progress end
+    /// as soon as their runtime polls them. Checked-out connections are dropped when they are
+    /// returned. It waits for them, so call it without a guard in the same task, or limit it by a
+    /// timeout. If it is dropped, the pool stays closed.
     ///
     /// # Panics
     ///
@@ -193,7 +195,6 @@ impl<M: ManageConnection> Pool<M> {
         Config::from(&self.shared().settings)
     }
 
-    #[inline]
     pub(crate) fn shared(&self) -> &Arc<Shared<M>> {
         &self.owner.shared
     }
@@ -291,6 +292,7 @@ where
 }
 
 impl<M: ManageConnection> Drop for PooledConnection<'_, M> {
+    // Inlining saves 8 instructions of a pair.
     #[inline]
     fn drop(&mut self) {
         if let Some(checkout) = self.checkout.take() {

@@ -5,7 +5,7 @@ use crate::core::{fit, Key, Moment, OpenedAnswer};
 use crate::events::report;
 use crate::managers::ManageConnection;
 use crate::pool::{Locked, Shared};
-use crate::returning::{kept, After};
+use crate::returning::After;
 use futures_util::future::{select, Either};
 use std::pin::pin;
 use std::sync::Arc;
@@ -161,20 +161,19 @@ impl<M: ManageConnection> Attempt<M> {
         let end = self.shared.set_end(&mut conn, at);
         let mut locked = self.shared.lock();
         locked.pending -= 1;
-        let after = match fit(locked.core.opened(Moment(at), approval, Some(conn))) {
+        match fit(locked.core.opened(Moment(at), approval, Some(conn))) {
             OpenedAnswer::Entered(notified) => {
-                if let Some(end) = end {
-                    locked.ends.note(approval, end);
-                }
-                kept(notified)
+                self.shared.entered(locked, at, approval, end, notified);
             }
-            OpenedAnswer::Late(closed) => Some(After {
-                closed,
-                grants: locked.ask_anew(at),
-                notified: None,
-            }),
-        };
-        self.shared.settle(locked, at, after);
+            OpenedAnswer::Late(closed) => {
+                let after = After {
+                    closed,
+                    grants: locked.ask_anew(at),
+                    notified: None,
+                };
+                self.shared.settle(locked, at, Some(after));
+            }
+        }
     }
 }
 

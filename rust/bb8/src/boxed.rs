@@ -71,14 +71,12 @@ impl<C> Boxed<C> {
 impl<C> Deref for Boxed<C> {
     type Target = C;
 
-    #[inline]
     fn deref(&self) -> &C {
         &self.0[0].conn
     }
 }
 
 impl<C> DerefMut for Boxed<C> {
-    #[inline]
     fn deref_mut(&mut self) -> &mut C {
         &mut self.0[0].conn
     }

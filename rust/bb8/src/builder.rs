@@ -360,8 +360,9 @@ impl<M: ManageConnection> Builder<M> {
     }
 
     /// Sets how often the pool closes connections that are too old, or idle for too long. The
-    /// default is every 30 seconds. A pool without these limits has no reaper. If it is zero and an
-    /// age is limited, building the pool panics.
+    /// default is every 30 seconds, the most 30 years. A pool without these limits has no reaper.
+    /// The reaper ends with the runtime in which the pool was built. If the time is zero and an age
+    /// is limited, building the pool panics.
     pub fn reaper_rate(mut self, reaper_rate: Duration) -> Self {
         self.config.reaper_rate = reaper_rate;
         self
@@ -473,9 +474,9 @@ impl<M: ManageConnection> Builder<M> {
         self
     }
 
-    /// Sets how long a `get` that waits or checks may take before the pool reports it by `tracing`,
-    /// with its state. The default is two seconds. Without the cargo feature `tracing` it does
-    /// nothing.
+    /// Sets how long a `get` that waits or checks may take: one that is served later is reported by
+    /// `tracing`, with the pool's state. One that times out or is cancelled is not. The default is
+    /// two seconds. Without the cargo feature `tracing` it does nothing.
     ///
     /// # Examples
     ///

@@ -13,11 +13,11 @@ use std::fmt;
 /// /// The status of a response without a connection.
 /// fn status<E>(error: &RunError<E>) -> u16 {
 ///     match error {
-///         RunError::User(_) => 502,
+///         RunError::TimedOut => 504,
 ///         _ => 503,
 ///     }
 /// }
-/// assert_eq!(status::<()>(&RunError::TimedOut), 503);
+/// assert_eq!(status::<()>(&RunError::Closed), 503);
 /// ```
 ///
 /// ```compile_fail
@@ -30,9 +30,10 @@ use std::fmt;
 #[derive(Debug, Clone, PartialEq, Eq)]
 #[non_exhaustive]
 pub enum RunError<E> {
-    /// An error of the manager.
+    /// An error of the manager, as `?` converts it. The pool itself never returns it: errors of
+    /// connection attempts and checks go to the error sink, and their gets time out.
     User(E),
-    /// No connection became available within `connection_timeout`.
+    /// No connection became available within `connection_timeout`, or the get's own time.
     TimedOut,
     /// Memory for the get was refused.
     Memory,

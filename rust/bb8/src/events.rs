@@ -59,7 +59,6 @@ impl<M: ManageConnection> Shared<M> {
 
     /// Reports a served get that began at this instant, if it took longer than
     /// `slow_get_threshold`.
-    #[inline]
     pub(crate) fn served(&self, began: Option<Instant>) {
         #[cfg(feature = "tracing")]
         if let (Some(began), Some(threshold)) = (began, self.settings.slow_get_threshold) {

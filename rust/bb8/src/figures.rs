@@ -58,9 +58,9 @@ pub struct Statistics {
     pub get_waited: u64,
     /// `get` calls that timed out.
     pub get_timed_out: u64,
-    /// `get` calls whose future was dropped before it resolved, and those that waited when the pool
-    /// was closed. A [`Pool::try_get`](crate::Pool::try_get) counts here if all that it checked
-    /// failed. A `timeout(d, pool.get())` counts here, a
+    /// `get` calls whose future was dropped before it resolved, and those that returned `Closed`
+    /// after they had begun. A [`Pool::try_get`](crate::Pool::try_get) counts here if all that it
+    /// checked failed. A `timeout(d, pool.get())` counts here, a
     /// [`Pool::get_timeout`](crate::Pool::get_timeout) as timed out.
     #[doc(alias = "cancellation")]
     pub get_cancelled: u64,

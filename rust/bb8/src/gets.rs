@@ -22,6 +22,10 @@ impl<M: ManageConnection> Pool<M> {
     /// pool is closed; `Memory` and `Exhausted` if the get could not begin. Errors of the manager
     /// go to the error sink.
     ///
+    /// # Panics
+    ///
+    /// If it has to wait outside a tokio runtime, or in one without timers.
+    ///
     /// # Examples
     ///
     /// ```
@@ -120,8 +124,9 @@ impl<M: ManageConnection> Pool<M> {
     }
 
     /// Checks out an idle connection, or returns `None` if none is idle and valid. It never waits
-    /// for a connection, and requests none: a pool without `min_idle` that is only asked by
-    /// `try_get` stays empty.
+    /// for a connection, and requests none. So a pool that is only asked by `try_get` stays empty
+    /// if it has no `min_idle`, or after an outage longer than `connection_timeout` until its next
+    /// reap.
     ///
     /// If connections are checked, it awaits the check. After one that fails it goes on with the
     /// next idle connection, as long as `connection_timeout` has not passed.

@@ -91,7 +91,11 @@ impl<M: ManageConnection> Pool<M> {
                 Tried::NoneIdle | Tried::Refused if shared.is_closed() => {
                     return Err(RunError::Closed)
                 }
-                Tried::NoneIdle => return result(None),
+                Tried::NoneIdle => {
+                    // A step outside a runtime may have left connections to be opened.
+                    shared.settle(shared.lock(), 0, None);
+                    return result(None);
+                }
                 Tried::Refused => return Err(RunError::Memory),
                 Tried::Exhausted => return Err(RunError::Exhausted),
             }
@@ -134,7 +138,6 @@ impl<F: Fn(&Config) -> Duration + Copy> Limit for F {}
 
 /// Returns when a get has to end, or, if that is earlier, a check that begins now and has a limit.
 /// `None` if the clock cannot represent it.
-#[inline(always)]
 fn deadline(
     began: &mut Option<Instant>,
     limit: impl Limit,
@@ -148,26 +151,18 @@ fn deadline(
 }
 
 /// Returns the timer of a get. It is created here, when the get first has to wait.
-#[inline(always)]
 fn started(
     mut timer: Pin<&mut Option<Sleep>>,
     deadline: impl FnOnce() -> Option<Instant>,
 ) -> Option<Pin<&mut Sleep>> {
     if timer.is_none() {
-        timer.set(sleeping(deadline()?));
+        timer.set(Some(sleep_until(deadline()?)));
     }
     timer.as_pin_mut()
 }
 
-/// Returns a timer. Inlined, it would copy the timer, of 640 bytes, once more.
-#[inline(never)]
-fn sleeping(deadline: Instant) -> Option<Sleep> {
-    Some(sleep_until(deadline))
-}
-
 /// Resolves once the check does, or to `None` once its time is over. The check may use up the
 /// budget of its task: the timer fires all the same.
-#[inline(always)]
 fn in_time<'c, M: ManageConnection, T>(
     mut check: Pin<&'c mut impl Future<Output = T>>,
     mut timer: Pin<&'c mut Option<Sleep>>,
@@ -195,7 +190,6 @@ fn in_time<'c, M: ManageConnection, T>(
 }
 
 impl<'a, M: ManageConnection> Getting<'a, M> {
-    #[inline]
     pub(crate) fn new(shared: &'a Arc<Shared<M>>) -> Self {
         Getting {
             shared,
@@ -212,6 +206,7 @@ impl<'a, M: ManageConnection> Getting<'a, M> {
 
     /// Begins and tries if a connection is idle. Such a get does not wait, so its waker does not
     /// matter, and its moment only decides whether the connection is checked.
+    // Inlining saves 25 instructions of a pair.
     #[inline(always)]
     fn try_at_once(&mut self, at: u64) -> Option<Tried> {
         let mut locked = self.shared.lock();
@@ -223,7 +218,6 @@ impl<'a, M: ManageConnection> Getting<'a, M> {
     }
 
     /// As `try_at_once`, but the get may have begun already.
-    #[inline(never)]
     fn try_idle(&mut self) -> Option<Tried> {
         let at = self.shared.now_if(self.shared.checks == Checks::Stale);
         if self.stage == Stage::New {
@@ -238,7 +232,6 @@ impl<'a, M: ManageConnection> Getting<'a, M> {
     }
 
     /// Resolves once the get has a connection, its time is over, or it could not begin.
-    #[inline(always)]
     fn try_in_time(
         &mut self,
         cx: &mut Context<'_>,
@@ -262,7 +255,6 @@ impl<'a, M: ManageConnection> Getting<'a, M> {
     }
 
     /// Begins and tries. Returns `None` if the get waits.
-    #[inline(always)]
     pub(crate) fn begin(&mut self, waker: &mut Option<Waker>) -> Option<Tried> {
         let at = self.since();
         let mut locked = self.shared.lock();
@@ -286,13 +278,13 @@ impl<'a, M: ManageConnection> Getting<'a, M> {
     }
 
     /// Returns the moment at which the get began.
-    #[inline(always)]
     fn since(&mut self) -> u64 {
         let began = *self.began.get_or_insert_with(Instant::now);
         *self.since.get_or_insert_with(|| self.shared.moment(began))
     }
 
     /// Begins, and tries once. Returns an error if it could not begin.
+    // Inlining saves 30 instructions of a pair.
     #[inline(always)]
     fn start(&mut self, core: &mut Core<M::Connection>, at: u64) -> Result<Answered<M>, Tried> {
         match core.start(Moment(at)) {
@@ -307,6 +299,7 @@ impl<'a, M: ManageConnection> Getting<'a, M> {
     }
 
     /// Goes on after a try. Returns `None` if the get waits.
+    // Inlining saves 42 instructions of a pair.
     #[inline(always)]
     fn tried(
         &mut self,
@@ -352,7 +345,6 @@ impl<'a, M: ManageConnection> Getting<'a, M> {
 
     /// Returns whether the connection that it holds is within its own end, and closes it if not.
     /// Returns `None` if the manager has to check it as well.
-    #[cold]
     fn check_age(&mut self) -> Option<bool> {
         if self.shared.is_past_end(&self.held.as_ref()?.conn) {
             self.close_as(MAX_LIFETIME);
@@ -363,7 +355,6 @@ impl<'a, M: ManageConnection> Getting<'a, M> {
 
     /// Returns whether the check passed, and closes the connection if not. `checked` is `None` if
     /// the check was cut off. Exception: if the get's own time is over, its end closes it.
-    #[inline(always)]
     fn conclude(&mut self, checked: Option<Result<(), M::Error>>, limit: impl Limit) -> bool {
         match checked {
             Some(Ok(())) => return true,
@@ -375,7 +366,6 @@ impl<'a, M: ManageConnection> Getting<'a, M> {
     }
 
     /// Ends a get that the core has served, and returns its connection.
-    #[inline(always)]
     fn served(self) -> Checkout<M::Connection> {
         let mut ended = ManuallyDrop::new(self);
         ended.shared.served(ended.began);
@@ -383,6 +373,7 @@ impl<'a, M: ManageConnection> Getting<'a, M> {
     }
 
     /// Reports to the core that the check passed, and returns the connection.
+    // Inlining saves 38 instructions of a pair.
     #[inline(always)]
     fn pass(self) -> Checkout<M::Connection> {
         let mut ended = ManuallyDrop::new(self);
@@ -407,14 +398,11 @@ impl<'a, M: ManageConnection> Getting<'a, M> {
     }
 
     /// Ends because its time is over, unless it was served since its last try.
-    #[cold]
-    #[inline(never)]
     pub(crate) fn time_out(&mut self) -> Option<Checkout<M::Connection>> {
         self.end(Reason::TimedOut)
     }
 
     /// Closes the connection, whose check failed with this error, or took too long.
-    #[cold]
     fn close(&mut self, error: Option<M::Error>) {
         if error.is_none() {
             self.shared.lock().counts.checks_timed_out += 1;
@@ -435,6 +423,7 @@ impl<'a, M: ManageConnection> Getting<'a, M> {
 
     /// Ends without a connection, unless it was served since its last try. If that cuts off a
     /// check, the connection is closed.
+    // Inlining saves 19 instructions of a cancelled get.
     #[inline(always)]
     fn end(&mut self, reason: Reason) -> Option<Checkout<M::Connection>> {
         let mut fate = Fate::CutOff;
@@ -480,7 +469,6 @@ impl<'a, M: ManageConnection> Getting<'a, M> {
 type Answered<M> = TryAnswer<Held<<M as ManageConnection>::Connection>>;
 
 impl<M: ManageConnection> Drop for Getting<'_, M> {
-    #[inline(never)]
     fn drop(&mut self) {
         if matches!(self.stage, Stage::New | Stage::Ended) {
             return;

@@ -17,8 +17,10 @@ use crate::managers::ManageConnection;
 use crate::returning::{closed, kept, resume};
 use crate::waiters::{Handed, Waiters};
 use bb8_core::kit::Global;
+use futures_util::future::{select, Either};
 use futures_util::stream::{FuturesUnordered, StreamExt};
 use std::panic::{catch_unwind, AssertUnwindSafe};
+use std::pin::pin;
 use std::sync::{Arc, Weak};
 use std::task::Waker;
 use std::time::Duration;
@@ -80,7 +82,6 @@ impl<C> Locked<C> {
     }
 
     /// Whether the pool is closed, or has no handle any more, which is the same to the core.
-    #[inline]
     pub(crate) fn is_closed(&self) -> bool {
         !self.core.fits_close()
     }
@@ -150,6 +151,8 @@ pub(crate) struct Shared<M: ManageConnection> {
     pub(crate) fair_after: Option<u64>,
     /// Notifies all that wait until the pool is closed, or until nothing of a closed pool is left.
     pub(crate) closing: Notify,
+    /// Notifies the reaper that a connection with an end of its own came in.
+    dated: Arc<Notify>,
     locked: Mutex<Locked<M::Connection>>,
 }
 
@@ -167,6 +170,7 @@ impl<M: ManageConnection> Shared<M> {
             inspects: config.has_ends() || settings.connection_customizer.is_some(),
             fair_after: config.fair_after.map(nanoseconds),
             closing: Notify::new(),
+            dated: Arc::default(),
             locked: Mutex::new(Locked {
                 core: core::core(config),
                 closed: ClosedList::new(Global),
@@ -183,6 +187,7 @@ impl<M: ManageConnection> Shared<M> {
         }
     }
 
+    // Inlining saves 5 instructions of a pair.
     #[inline]
     pub(crate) fn lock(&self) -> MutexGuard<'_, Locked<M::Connection>> {
         self.locked.lock()
@@ -198,7 +203,6 @@ impl<M: ManageConnection> Shared<M> {
     }
 
     /// Returns the current moment if it matters, else 0 without reading the clock.
-    #[inline]
     pub(crate) fn now_if(&self, matters: bool) -> u64 {
         if matters {
             self.now()
@@ -242,6 +246,7 @@ impl<M: ManageConnection> Shared<M> {
     }
 
     /// Serves a get at once if connections are not checked, and one is idle.
+    // Inlining saves 32 instructions of an unchecked pair.
     #[inline]
     pub(crate) fn get_at_once(self: &Arc<Self>) -> Option<Checkout<M::Connection>> {
         let mut locked = self.lock();
@@ -301,10 +306,7 @@ impl<M: ManageConnection> Shared<M> {
         {
             Ok(AddAnswer::Added(key, notified)) => {
                 locked.counts.added += 1;
-                if let Some(end) = end {
-                    locked.ends.note(key, end);
-                }
-                self.settle(locked, at, kept(notified));
+                self.entered(locked, at, key, end, notified);
                 return Ok(());
             }
             Ok(AddAnswer::Withheld(conn)) => (AddError::Withheld, conn),
@@ -317,6 +319,24 @@ impl<M: ManageConnection> Shared<M> {
         match conn {
             Some(conn) => Err(refused(Boxed::into_inner(conn))),
             None => unreachable!("the core returns the connection that it refused"),
+        }
+    }
+
+    /// Does the work after a connection came in, which may have an end of its own.
+    pub(crate) fn entered(
+        self: &Arc<Self>,
+        mut locked: MutexGuard<'_, Locked<M::Connection>>,
+        at: u64,
+        key: Key,
+        end: Option<u64>,
+        notified: Option<GetKey>,
+    ) {
+        if let Some(end) = end {
+            locked.ends.note(key, end);
+        }
+        self.settle(locked, at, kept(notified));
+        if end.is_some() {
+            self.dated.notify_one();
         }
     }
 
@@ -366,9 +386,7 @@ impl<M: ManageConnection> Shared<M> {
         }
         drop(locked);
         let dropped = self.drop_closed(reason);
-        if self.lock().unopened {
-            self.open();
-        }
+        self.settle(self.lock(), at, None);
         dropped
     }
 
@@ -414,7 +432,6 @@ impl<M: ManageConnection> Shared<M> {
     /// Opens connections for all approvals that are unclaimed, or whose attempts were cut off, each
     /// in a task of its own. A runtime that shuts down drops such a task at once, which cuts its
     /// attempt off again. So those that were cut off before are taken all at once.
-    #[cold]
     pub(crate) fn open(self: &Arc<Self>) {
         let Ok(runtime) = Handle::try_current() else {
             self.lock().unopened = true;
@@ -441,6 +458,9 @@ fn nanoseconds(span: Duration) -> u64 {
     seconds.saturating_add(u64::from(span.subsec_nanos()))
 }
 
+/// The longest time between two reaps, 30 years: a clock may not represent the end of a longer one.
+const LONGEST_RATE: Duration = Duration::from_secs(30 * 365 * 24 * 60 * 60);
+
 /// The owner that all handles share: its drop closes the pool. If memory to list the idle
 /// connections is refused, they are dropped once the last connection attempt has ended.
 pub(crate) struct Owner<M: ManageConnection> {
@@ -452,13 +472,14 @@ impl<M: ManageConnection> Owner<M> {
     /// limited.
     pub(crate) fn new(settings: Builder<M>, manager: M) -> Arc<Self> {
         let has_limits = settings.config.has_limits();
-        let rate = settings.config.reaper_rate;
+        let rate = settings.config.reaper_rate.min(LONGEST_RATE);
         let shared = Arc::new(Shared::new(settings, manager));
         let owner = Arc::new(Owner { shared });
         if has_limits {
             let mut ticks = interval_at(owner.shared.started + rate, rate);
             ticks.set_missed_tick_behavior(MissedTickBehavior::Skip);
-            tokio::spawn(reap(ticks, Arc::downgrade(&owner)));
+            let dated = owner.shared.dated.clone();
+            tokio::spawn(reap(ticks, dated, Arc::downgrade(&owner)));
         }
         owner
     }
@@ -471,10 +492,13 @@ impl<M: ManageConnection> Drop for Owner<M> {
 }
 
 /// Reaps at each tick, and closes each idle connection at its own end, until the pool is closed.
-async fn reap<M: ManageConnection>(mut ticks: Interval, owner: Weak<Owner<M>>) {
+async fn reap<M: ManageConnection>(mut ticks: Interval, dated: Arc<Notify>, owner: Weak<Owner<M>>) {
     let mut pause = ticks.period();
     loop {
-        let is_tick = timeout(pause, ticks.tick()).await.is_ok();
+        let tick = pin!(ticks.tick());
+        let note = pin!(dated.notified());
+        let woken = timeout(pause, select(tick, note)).await;
+        let is_tick = matches!(woken, Ok(Either::Left(_)));
         match owner.upgrade() {
             Some(owner) if !owner.shared.is_closed() => {
                 if is_tick {

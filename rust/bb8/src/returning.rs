@@ -27,7 +27,6 @@ pub(crate) struct After<C> {
 }
 
 /// Returns the work after a step that closed nothing, or `None` if there is none.
-#[inline]
 pub(crate) fn kept<C>(notified: Option<GetKey>) -> Option<After<C>> {
     notified?;
     Some(After {
@@ -38,7 +37,6 @@ pub(crate) fn kept<C>(notified: Option<GetKey>) -> Option<After<C>> {
 }
 
 /// Returns the work after a step that closed this connection.
-#[inline]
 pub(crate) fn closed<C>(
     closed: Held<C>,
     grant: Grant,
@@ -52,7 +50,6 @@ pub(crate) fn closed<C>(
 }
 
 /// Returns the work after a guard was dropped.
-#[inline]
 fn put_back<C>(answer: PutBackAnswer<Held<C>>) -> Option<After<C>> {
     match answer {
         PutBackAnswer::Kept(notified) => kept(notified),
@@ -61,7 +58,6 @@ fn put_back<C>(answer: PutBackAnswer<Held<C>>) -> Option<After<C>> {
 }
 
 /// Returns the work after a get has ended without a connection.
-#[inline]
 pub(crate) fn gave_up<C>(answer: GiveUpAnswer<Held<C>>) -> Option<After<C>> {
     match answer {
         GiveUpAnswer::GaveUp(notified) | GiveUpAnswer::Kept(_, notified) => kept(notified),
@@ -90,7 +86,6 @@ struct Owed<'a, M: ManageConnection> {
 }
 
 impl<M: ManageConnection> Drop for Owed<'_, M> {
-    #[cold]
     fn drop(&mut self) {
         let shared = self.shared;
         shared.make(self.step, self.key, None, self.broken);
@@ -113,6 +108,7 @@ pub(crate) enum Fate {
 
 impl<M: ManageConnection> Shared<M> {
     /// Returns a guard's connection to the pool.
+    // Inlining saves 60 instructions of a pair.
     #[inline]
     pub(crate) fn release(self: &Arc<Self>, checkout: Checkout<M::Connection>) {
         if self.inspects {
@@ -123,12 +119,12 @@ impl<M: ManageConnection> Shared<M> {
     }
 
     /// Returns a connection to the pool without an inspection.
-    #[inline]
     pub(crate) fn put_back(self: &Arc<Self>, checkout: Checkout<M::Connection>) {
         self.take_back(checkout, Fate::Kept, Step::PutBack);
     }
 
     /// Inspects a connection, and returns it to the pool unless it is to be closed.
+    // As a function of its own it saves 46 instructions of a pair.
     #[inline(never)]
     fn inspect(self: &Arc<Self>, checkout: Checkout<M::Connection>) {
         self.take_back(checkout, Fate::Released, Step::PutBack);
@@ -136,6 +132,7 @@ impl<M: ManageConnection> Shared<M> {
 
     /// Returns a checked-out connection by a step. If it is not kept, or if the manager or the
     /// customizer panics, it is dropped before the core frees its slot, and counts as broken.
+    // Inlining saves 61 instructions of a pair.
     #[inline]
     pub(crate) fn take_back(
         self: &Arc<Self>,
@@ -170,6 +167,7 @@ impl<M: ManageConnection> Shared<M> {
     }
 
     /// Makes the step that returns a connection. It is `None` if it was dropped.
+    // Inlining saves 30 instructions of a pair.
     #[inline(always)]
     fn make(self: &Arc<Self>, step: Step, key: Key, conn: Held<M::Connection>, broken: bool) {
         let at = match step {
@@ -217,6 +215,7 @@ impl<M: ManageConnection> Shared<M> {
 
     /// Does the work after a step at this moment: releases the lock, drops the closed connection,
     /// starts the granted connection attempts, and wakes the notified get or hands it a connection.
+    // Inlining saves 29 instructions of a pair.
     #[inline(always)]
     pub(crate) fn settle(
         self: &Arc<Self>,
@@ -252,7 +251,6 @@ impl<M: ManageConnection> Shared<M> {
         }
     }
 
-    #[inline(always)]
     fn go_on(self: &Arc<Self>, due: bool, waker: Option<Waker>) {
         if due {
             self.open();
@@ -262,6 +260,7 @@ impl<M: ManageConnection> Shared<M> {
         }
     }
 
+    // The mark saves 6 instructions of a waiting get.
     #[cold]
     fn drop_late(self: &Arc<Self>, conn: Boxed<M::Connection>, due: bool, waker: Option<Waker>) {
         let reason = if self.is_closed() { CLOSED } else { RETIRED };
@@ -274,7 +273,6 @@ impl<M: ManageConnection> Shared<M> {
     /// pool the get is handed an idle connection. If none is idle it tries by itself, so that the
     /// connection that it requests is opened in the runtime of its task. A get without an entry was
     /// refused memory to wait: it gives up, which passes its notification to the next one.
-    #[inline]
     fn notify(
         &self,
         locked: &mut Locked<M::Connection>,
@@ -305,8 +303,6 @@ impl<M: ManageConnection> Shared<M> {
     }
 
     /// Drops a connection that a step closed. Returns the panic of its destructor.
-    #[cold]
-    #[inline(never)]
     fn drop_one(&self, conn: Boxed<M::Connection>, reason: &str) -> thread::Result<()> {
         self.closed(&conn, reason);
         let dropped = catch_unwind(AssertUnwindSafe(|| drop(conn)));

@@ -160,14 +160,17 @@ async fn a_connection_closed_by_the_customizer_or_by_its_own_end_is_reported_as_
     let reason = r#"DEBUG message=connection closed pool="bb8" reason="#;
     // Each end is past with a probability of 0.99, so one of eight is.
     let builder = || Pool::builder().min_idle(8).max_size(8).idle_timeout(None);
-    let builder = || builder().reaper_rate(1000 * second);
     let aging = builder()
         .max_lifetime(100 * second)
         .max_lifetime_jitter(1.0);
     let pool = aging.build(Manager(Arc::default())).await.unwrap();
+    let mut all = Vec::new();
+    for _ in 0..8 {
+        all.push(pool.get().await.unwrap());
+    }
     log.take();
     sleep(99 * second).await;
-    drop(pool.get().await.unwrap());
+    drop(all);
     let lines = log.take();
     assert!(
         lines.contains(&format!("{reason}\"max_lifetime\" age=99s")),

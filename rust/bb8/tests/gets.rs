@@ -7,6 +7,7 @@ use std::pin::{pin, Pin};
 use std::sync::atomic::{AtomicU32, Ordering::SeqCst};
 use std::sync::Arc;
 use std::task::Context;
+use std::thread::spawn;
 use std::time::Duration;
 use tokio::time::{sleep, timeout, Instant};
 
@@ -190,6 +191,23 @@ async fn try_get_dropped_in_its_check_frees_the_slot() {
         (2, 1)
     );
     assert_eq!(counts(&pool), [1, 0, 0, 0, 1]);
+}
+
+#[tokio::test(start_paused = true)]
+async fn try_get_refills_min_idle_after_a_step_outside_a_runtime() {
+    for check in CHECKS {
+        let world: Arc<World> = Arc::default();
+        let builder = Pool::builder().test_on_check_out(check).min_idle(2);
+        let builder = builder.max_lifetime(None).idle_timeout(None);
+        let pool = builder.build(Manager(world.clone())).await.unwrap();
+        let outside = pool.clone();
+        spawn(move || outside.retire()).join().unwrap();
+        assert_eq!(pool.state().connections, 0);
+        assert!(pool.try_get().await.unwrap().is_none());
+        sleep(SECOND).await;
+        assert_eq!(pool.state().connections, 2);
+        assert_eq!(pool.try_get().await.unwrap().unwrap().0, 2);
+    }
 }
 
 fn is_sent<T: Send + Sync>(_: T) {}

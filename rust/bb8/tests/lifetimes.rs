@@ -5,7 +5,9 @@ use bb8::{Builder, ManageConnection, Pool};
 use std::convert::Infallible;
 use std::sync::atomic::{AtomicU32, Ordering::SeqCst};
 use std::sync::{Arc, Mutex};
+use std::thread::spawn;
 use std::time::Duration;
+use tokio::runtime;
 use tokio::time::{sleep, Instant};
 
 const SECOND: Duration = Duration::from_secs(1);
@@ -132,13 +134,15 @@ async fn without_jitter_they_end_together() {
 async fn an_idle_connection_past_its_end_is_closed_when_it_is_taken_out() {
     for check in CHECKS {
         let world = World::new();
-        let builder = eight(check)
-            .max_lifetime_jitter(1.0)
-            .min_idle(8)
-            .reaper_rate(1000 * SECOND);
-        let pool = builder.build(Manager(world.clone())).await.unwrap();
-        // An end is not past with a probability of 1 in 100,000.
-        sleep(100 * SECOND - Duration::from_millis(1)).await;
+        let manager = Manager(world.clone());
+        // Its reaper ends with the runtime in which it is built.
+        let build = move || {
+            let builder = eight(check).max_lifetime_jitter(1.0).min_idle(8);
+            let runtime = runtime::Builder::new_current_thread().enable_time().build();
+            runtime.unwrap().block_on(builder.build(manager)).unwrap()
+        };
+        let pool = spawn(build).join().unwrap();
+        sleep(101 * SECOND).await;
         assert_eq!(pool.state().idle_connections, 8);
         let conn = pool.get().await.unwrap();
         let seen = pool.state().statistics;
@@ -172,6 +176,33 @@ async fn eight_idle_connections_are_closed_one_by_one_and_replaced() {
         (closed, 0)
     );
     assert_eq!(seen.connections_created, 8 + closed);
+}
+
+#[tokio::test(start_paused = true)]
+async fn connections_that_end_before_the_first_reap_are_closed_one_by_one_too() {
+    for is_added in [false, true] {
+        let world = World::new();
+        let builder = eight(true)
+            .max_lifetime(10 * SECOND)
+            .max_lifetime_jitter(0.5)
+            .reaper_rate(30 * SECOND)
+            .min_idle(if is_added { 0 } else { 8 });
+        let pool = builder.build(Manager(world.clone())).await.unwrap();
+        for _ in 0..if is_added { 8 } else { 0 } {
+            assert!(pool.add(world.open()).is_ok());
+        }
+        sleep(20 * SECOND + 5 * MILLISECOND).await;
+        let ends = world.first_eight();
+        let [first, last] = [ends[0], ends[7]];
+        assert!(
+            first >= 5 * SECOND && last <= 10 * SECOND + 2 * MILLISECOND,
+            "{ends:?}"
+        );
+        assert!(last - first > SECOND / 10, "{ends:?}");
+        // So are those that replaced them.
+        let closed = world.closed.lock().unwrap().len();
+        assert!(closed >= if is_added { 8 } else { 16 }, "{closed}");
+    }
 }
 
 #[tokio::test(start_paused = true)]

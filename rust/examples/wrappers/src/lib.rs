@@ -59,18 +59,19 @@ impl<M: ManageConnection> DerefMut for Watched<'_, M> {
     }
 }
 
-/// Checks each idle connection every so often, one after the other: a get takes the connection that
-/// has been idle longest, and checks it. Spawn this, and abort it at shutdown, as it keeps the pool
-/// alive. The pool has to have `test_on_check_out` and the order `Fifo`, which are the defaults.
+/// Checks each idle connection every so often, one after the other: `try_get` takes the connection
+/// that has been idle longest, and checks it. Spawn this, and close the pool at shutdown, as it
+/// keeps the pool alive. The pool has to have `test_on_check_out` and the order `Fifo`, which are
+/// the defaults, and a `test_on_check_out_after` below the interval.
 ///
 /// A checked connection's idle time starts again, so `idle_timeout` has no effect if it is longer
 /// than the interval.
 pub async fn keep_alive<M: ManageConnection>(pool: Pool<M>, interval: Duration) {
-    loop {
+    while !pool.is_closed() {
         sleep(interval).await;
         for _ in 0..pool.state().idle_connections {
             // A connection that fails its check is closed. Its error goes to the error sink.
-            drop(pool.get().await);
+            drop(pool.try_get().await);
         }
     }
 }

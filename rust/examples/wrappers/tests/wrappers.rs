@@ -87,7 +87,9 @@ async fn each_idle_connection_is_kept_alive() {
     sleep(62 * SECOND).await;
     let idle: Vec<u32> = (1..=4).filter(|number| *number != out.0).collect();
     assert_eq!(*log.checked.lock().unwrap(), [&idle[..], &idle].concat());
-    task.abort();
+    drop(out);
+    pool.close().await;
+    task.await.unwrap();
 }
 
 #[tokio::test(start_paused = true)]
