@@ -74,8 +74,9 @@ impl<M: ManageConnection> Pool<M> {
 
     /// Retires all connections: idle ones are closed now, checked-out ones when they are returned,
     /// and those of attempts in progress once they are open. So no get is handed an old connection
-    /// from then on. Exception: one that is already checking one, or was handed one
-    /// ([`Builder::fair_after`](crate::Builder::fair_after)) and not polled since.
+    /// from then on. Exceptions: a get that is checking an old connection, and with
+    /// [`Builder::fair_after`](crate::Builder::fair_after) a get that was handed one and has not
+    /// been polled since.
     ///
     /// Connections that `min_idle` requires, or that gets wait for, are opened anew, others when a
     /// get needs them.
@@ -111,11 +112,11 @@ impl<M: ManageConnection> Pool<M> {
     /// Closes the pool for all its handles, and resolves once all its connections are dropped.
     ///
     /// When it is first polled, waiting gets return [`RunError::Closed`](crate::RunError::Closed)
-    /// and count in `get_cancelled`. Every later get returns it, too; one that is checking a
-    /// connection may still return that. Idle connections are dropped, and attempts in progress end
-    /// as soon as their runtime polls them. Checked-out connections are dropped when they are
-    /// returned. It waits for them, so call it without a guard in the same task, or limit it by a
-    /// timeout. If it is dropped, the pool stays closed.
+    /// and count in `get_cancelled`. Every later get returns it, too. Exception: a get that is
+    /// checking a connection at that moment may still return it. Idle connections are dropped, and
+    /// attempts in progress end as soon as their runtime polls them. Checked-out connections are
+    /// dropped when they are returned. It waits for them, so call it without a guard in the same
+    /// task, or limit it by a timeout. If it is dropped, the pool stays closed.
     ///
     /// # Panics
     ///

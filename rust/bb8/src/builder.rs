@@ -360,9 +360,9 @@ impl<M: ManageConnection> Builder<M> {
     }
 
     /// Sets how often the pool closes connections that are too old, or idle for too long. The
-    /// default is every 30 seconds, the most 30 years. A pool without these limits has no reaper.
-    /// The reaper ends with the runtime in which the pool was built. If the time is zero and an age
-    /// is limited, building the pool panics.
+    /// default is every 30 seconds; a rate above 30 years counts as 30 years. A pool without these
+    /// limits has no reaper. The reaper ends with the runtime in which the pool was built. If the
+    /// rate is zero and an age is limited, building the pool panics.
     pub fn reaper_rate(mut self, reaper_rate: Duration) -> Self {
         self.config.reaper_rate = reaper_rate;
         self
@@ -474,9 +474,9 @@ impl<M: ManageConnection> Builder<M> {
         self
     }
 
-    /// Sets how long a `get` that waits or checks may take: one that is served later is reported by
-    /// `tracing`, with the pool's state. One that times out or is cancelled is not. The default is
-    /// two seconds. Without the cargo feature `tracing` it does nothing.
+    /// Sets how long a `get` that waits or checks may take. If it is served later than that, it is
+    /// reported by `tracing`, with the pool's state; if it times out or is cancelled, it is not.
+    /// The default is two seconds. Without the cargo feature `tracing` it does nothing.
     ///
     /// # Examples
     ///

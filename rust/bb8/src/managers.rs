@@ -50,9 +50,9 @@ pub trait CustomizeConnection<C: Send + 'static, E: 'static>:
     /// default every connection is kept.
     ///
     /// It is called when a guard is dropped, unless [`ManageConnection::has_broken`] returned true.
-    /// It should not block, nor panic: while its task unwinds, a second panic aborts the process. A
-    /// connection for which it returns false or panics is closed, and counts in
-    /// `connections_closed_broken`.
+    /// It should not block. It should not panic either: if the guard is dropped because its task
+    /// panics, a second panic aborts the process. A connection for which it returns false or panics
+    /// is closed, and counts in `connections_closed_broken`.
     ///
     /// # Examples
     ///

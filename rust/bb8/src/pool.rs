@@ -151,8 +151,8 @@ pub(crate) struct Shared<M: ManageConnection> {
     pub(crate) fair_after: Option<u64>,
     /// Notifies all that wait until the pool is closed, or until nothing of a closed pool is left.
     pub(crate) closing: Notify,
-    /// Notifies the reaper that a connection with an end of its own came in.
-    dated: Arc<Notify>,
+    /// Notifies the reaper of a new connection with an end of its own.
+    new_end: Arc<Notify>,
     locked: Mutex<Locked<M::Connection>>,
 }
 
@@ -170,7 +170,7 @@ impl<M: ManageConnection> Shared<M> {
             inspects: config.has_ends() || settings.connection_customizer.is_some(),
             fair_after: config.fair_after.map(nanoseconds),
             closing: Notify::new(),
-            dated: Arc::default(),
+            new_end: Arc::default(),
             locked: Mutex::new(Locked {
                 core: core::core(config),
                 closed: ClosedList::new(Global),
@@ -322,7 +322,8 @@ impl<M: ManageConnection> Shared<M> {
         }
     }
 
-    /// Does the work after a connection came in, which may have an end of its own.
+    /// Notes the end of a connection that was opened or added, if it has one, and does the work
+    /// after the step.
     pub(crate) fn entered(
         self: &Arc<Self>,
         mut locked: MutexGuard<'_, Locked<M::Connection>>,
@@ -336,7 +337,7 @@ impl<M: ManageConnection> Shared<M> {
         }
         self.settle(locked, at, kept(notified));
         if end.is_some() {
-            self.dated.notify_one();
+            self.new_end.notify_one();
         }
     }
 
@@ -478,8 +479,8 @@ impl<M: ManageConnection> Owner<M> {
         if has_limits {
             let mut ticks = interval_at(owner.shared.started + rate, rate);
             ticks.set_missed_tick_behavior(MissedTickBehavior::Skip);
-            let dated = owner.shared.dated.clone();
-            tokio::spawn(reap(ticks, dated, Arc::downgrade(&owner)));
+            let new_end = owner.shared.new_end.clone();
+            tokio::spawn(reap(ticks, new_end, Arc::downgrade(&owner)));
         }
         owner
     }
@@ -492,12 +493,16 @@ impl<M: ManageConnection> Drop for Owner<M> {
 }
 
 /// Reaps at each tick, and closes each idle connection at its own end, until the pool is closed.
-async fn reap<M: ManageConnection>(mut ticks: Interval, dated: Arc<Notify>, owner: Weak<Owner<M>>) {
+async fn reap<M: ManageConnection>(
+    mut ticks: Interval,
+    new_end: Arc<Notify>,
+    owner: Weak<Owner<M>>,
+) {
     let mut pause = ticks.period();
     loop {
         let tick = pin!(ticks.tick());
-        let note = pin!(dated.notified());
-        let woken = timeout(pause, select(tick, note)).await;
+        let new_end = pin!(new_end.notified());
+        let woken = timeout(pause, select(tick, new_end)).await;
         let is_tick = matches!(woken, Ok(Either::Left(_)));
         match owner.upgrade() {
             Some(owner) if !owner.shared.is_closed() => {

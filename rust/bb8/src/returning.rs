@@ -124,7 +124,7 @@ impl<M: ManageConnection> Shared<M> {
     }
 
     /// Inspects a connection, and returns it to the pool unless it is to be closed.
-    // As a function of its own it saves 46 instructions of a pair.
+    // Not inlining saves 46 instructions of a pair.
     #[inline(never)]
     fn inspect(self: &Arc<Self>, checkout: Checkout<M::Connection>) {
         self.take_back(checkout, Fate::Released, Step::PutBack);
@@ -260,7 +260,7 @@ impl<M: ManageConnection> Shared<M> {
         }
     }
 
-    // The mark saves 6 instructions of a waiting get.
+    // Marking it cold saves 6 instructions of a waiting get.
     #[cold]
     fn drop_late(self: &Arc<Self>, conn: Boxed<M::Connection>, due: bool, waker: Option<Waker>) {
         let reason = if self.is_closed() { CLOSED } else { RETIRED };

@@ -4,7 +4,9 @@ use bb8::{CustomizeConnection, ManageConnection, Pool, PooledConnection};
 use std::fmt::{Debug, Write};
 use std::sync::atomic::{AtomicU32, Ordering::SeqCst};
 use std::sync::{Arc, Mutex};
+use std::thread::spawn;
 use std::time::Duration;
+use tokio::runtime;
 use tokio::time::{advance, sleep};
 use tracing::field::{Field, Visit};
 use tracing::span::{Attributes, Id, Record};
@@ -174,6 +176,25 @@ async fn a_connection_closed_by_the_customizer_or_by_its_own_end_is_reported_as_
     let lines = log.take();
     assert!(
         lines.contains(&format!("{reason}\"max_lifetime\" age=99s")),
+        "{lines:?}"
+    );
+
+    // The same at a check-out, in a pool whose reaper has ended with the runtime that built it.
+    let aging = builder()
+        .max_lifetime(100 * second)
+        .max_lifetime_jitter(1.0);
+    let build = move || {
+        let runtime = runtime::Builder::new_current_thread().enable_time().build();
+        let pool = aging.build(Manager(Arc::default()));
+        runtime.unwrap().block_on(pool).unwrap()
+    };
+    let pool = spawn(build).join().unwrap();
+    sleep(99 * second).await;
+    drop(pool.get().await.unwrap());
+    let lines = log.take();
+    let reported = format!("{reason}\"max_lifetime\"");
+    assert!(
+        lines.iter().any(|it| it.starts_with(&reported)),
         "{lines:?}"
     );
 

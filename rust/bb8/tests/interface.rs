@@ -233,13 +233,17 @@ fn panics_name_the_invalid_setting() {
 
 /// Without a limit there is no reaper.
 #[tokio::test]
-async fn a_pool_without_limits_takes_any_reaper_rate_and_another_the_longest() {
-    let unlimited = Pool::builder().max_lifetime(None).idle_timeout(None);
-    let longest = Pool::builder().reaper_rate(Duration::MAX);
-    for builder in [unlimited.reaper_rate(Duration::ZERO), longest] {
-        let pool = builder.build(Numbers).await.unwrap();
-        assert!(pool.get().await.is_ok());
-    }
+async fn a_pool_without_limits_takes_any_reaper_rate() {
+    let builder = Pool::builder().max_lifetime(None).idle_timeout(None);
+    let pool = builder.reaper_rate(Duration::ZERO).build(Numbers).await;
+    assert!(pool.unwrap().get().await.is_ok());
+}
+
+#[tokio::test]
+async fn the_longest_reaper_rate_is_accepted() {
+    let builder = Pool::builder().reaper_rate(Duration::MAX);
+    let pool = builder.build(Numbers).await.unwrap();
+    assert!(pool.get().await.is_ok());
 }
 
 #[tokio::test]

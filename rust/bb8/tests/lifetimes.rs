@@ -179,7 +179,7 @@ async fn eight_idle_connections_are_closed_one_by_one_and_replaced() {
 }
 
 #[tokio::test(start_paused = true)]
-async fn connections_that_end_before_the_first_reap_are_closed_one_by_one_too() {
+async fn connections_that_end_before_the_first_reap_are_closed_at_their_own_ends() {
     for is_added in [false, true] {
         let world = World::new();
         let builder = eight(true)

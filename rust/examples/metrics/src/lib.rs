@@ -31,7 +31,7 @@ const METRICS: [Metric; 21] = [
         |state| state.statistics.get_waited.to_string()),
     ("bb8_get_timed_out_total", "Gets that timed out.",
         |state| state.statistics.get_timed_out.to_string()),
-    ("bb8_get_cancelled_total", "Gets that were dropped, or ended by a close.",
+    ("bb8_get_cancelled_total", "Gets that were dropped before they resolved, or that a close ended.",
         |state| state.statistics.get_cancelled.to_string()),
     ("bb8_get_wait_time_seconds_total", "Waits of served and timed-out gets.",
         |state| seconds(state.statistics.get_wait_time)),
