@@ -3,7 +3,8 @@ use Rattle.bb8_core.proofs.Words.{◌≡◌, ℕ, length, ◌≤◌, Bool, true,
 use Rattle.std.proofs.Common.{lt-ltb}
 use Rattle.std.proofs.lemmas.Bool.{ltb-false}
 use Rattle.bb8_core.specs.StateView.{IsAsBefore, Meets, ReportsFitting}
-use Rattle.bb8_types.specs.Places.{held_in}
+use Rattle.std.proofs.lemmas.Option.{slice_get_within}
+use Rattle.bb8_types.specs.Places.{held_in, first_of, first_place}
 use Rattle.bb8_types.specs.declared.standing.GetPlace.TheVariants.{Waiting}
 use Rattle.bb8_ledger.specs.Ledger.{idle}
 use Rattle.bb8_ledger.proofs.Facts.{idle_tally}
@@ -188,8 +189,9 @@ module _ {C : Type 0} where
       subst (λ (x : StateView C). 1 ≤ x.handles) h.2 (omega arith)
 
   -- while a connection is idle, a handle is alive
-  pub fit_idle : (s : StateView C) → 0 < length s.records.idle → IsFitting s Leave
-  fit_idle s some l legal means =
+  pub fit_idle : (s : StateView C) (k : ℕ) → first_of s.config.queue_strategy s.records.idle ≡ Some k → IsFitting s Leave
+  fit_idle s k first l legal means =
+      let some : 0 < length s.records.idle = omega (arith, slice_get_within s.records.idle (first_place s.config.queue_strategy (length s.records.idle)) k first) in
       let idle_some : 0 < length (idle l) = subst (λ (t : StateView C). 0 < length t.records.idle) (sym means) some in
       lt-ltb 0 (handles l) (positive (handles l) (λ none. omega (arith, idle_some, idle_tally l, (keeps_limits l legal).none_idle none)))
     where

@@ -47,7 +47,7 @@ module _ {C : Type 0} where
   TriesFew None old new = new ≡ old
   TriesFew (Some tried) old new = IsBounded (goes_out tried) 0 4 2 old new
 
-  -- The bounds of a step with hand-off: its event returns this many connections, and searches
-  -- at most `more` times; then comes its try.
-  abbrev pub AreBounded : ℕ → ℕ → Option (TryAnswer C) → StateView C → StateView C → Type 0
-  AreBounded back more tried old new = (between : StateView C) × IsBounded 0 back 4 more old between × TriesFew tried between new
+  -- The bounds of a step with hand-off: its event returns this many connections, reads at most
+  -- `most` table entries, and searches at most `more` times; then comes its try.
+  abbrev pub AreBounded : ℕ → ℕ → ℕ → Option (TryAnswer C) → StateView C → StateView C → Type 0
+  AreBounded back most more tried old new = (between : StateView C) × IsBounded 0 back most more old between × TriesFew tried between new

@@ -11,12 +11,12 @@ ghost use Rattle.bb8_core.specs.Unfit.{Stepped, OrComesBack, answered};
 ghost use Rattle.bb8_core.specs.HandedOver.{StepsAndTries, Follows, StaysPrompt, TriesFew, AreBounded};
 ghost use Rattle.bb8_core.specs.StepBounds.{come_back};
 ghost use Rattle.bb8_core.specs.StateView.{IsFitting};
-ghost use Rattle.bb8_core.specs.StepAnswers.{answer_of_checked_err, answer_of_give_up, answer_of_put_back, answer_of_detach, answer_of_opened, answer_of_add, reason_of, GivesBack, GivesBackInvalid, GivesBackHeld, HandsBack, Refuses};
+ghost use Rattle.bb8_core.specs.StepAnswers.{answer_of_checked_err, answer_of_give_up, answer_of_put_back, answer_of_detach, answer_of_evict, answer_of_opened, answer_of_add, reason_of, GivesBack, GivesBackInvalid, GivesBackHeld, HandsBack, HandsOutIdle, Refuses};
 
 use crate::api::Moment;
 use crate::internals::{
-    AddAnswer, CheckedErrAnswer, DetachAnswer, GetKey, GiveUpAnswer, Key, OpenedAnswer,
-    PoolInternals, PutBackAnswer, Reason, TryAnswer, Unfit,
+    AddAnswer, CheckedErrAnswer, DetachAnswer, EvictAnswer, GetKey, GiveUpAnswer, Key,
+    OpenedAnswer, PoolInternals, PutBackAnswer, Reason, TryAnswer, Unfit,
 };
 
 /// The result of a step with hand-off.
@@ -81,7 +81,7 @@ pub fn checked_err<C: Drop, A>(
     ensures connection { OrComesBack GivesBackInvalid conn result.outcome }
     ensures order { StaysPrompt result.tried pool.old at.0
         (acts.CheckedErr get.number broken) (answered answer_of_checked_err result.outcome) }
-    ensures bounds { AreBounded (come_back result.outcome) 3 result.tried pool.old pool.new }
+    ensures bounds { AreBounded (come_back result.outcome) 4 3 result.tried pool.old pool.new }
 {
     hand_over!(pool, at, pool.checked_err(at, get, conn, broken, hint))
 }
@@ -99,7 +99,7 @@ pub fn give_up<C: Drop, A>(
     ensures connection { IfOk result.outcome (GivesBackHeld None) }
     ensures order { StaysPrompt result.tried pool.old at.0
         (acts.GiveUp get.number (reason_of reason) None broken) (answered answer_of_give_up result.outcome) }
-    ensures bounds { AreBounded 0 1 result.tried pool.old pool.new }
+    ensures bounds { AreBounded 0 2 1 result.tried pool.old pool.new }
 {
     hand_over!(pool, at, pool.give_up(at, get, reason, broken))
 }
@@ -119,7 +119,7 @@ pub fn give_back<C: Drop, A>(
     ensures connection { OrComesBack (λ c. GivesBackHeld (Some c)) conn result.outcome }
     ensures order { StaysPrompt result.tried pool.old at.0
         (acts.GiveUp get.number (reason_of reason) (Some conn) broken) (answered answer_of_give_up result.outcome) }
-    ensures bounds { AreBounded (come_back result.outcome) 3 result.tried pool.old pool.new }
+    ensures bounds { AreBounded (come_back result.outcome) 4 3 result.tried pool.old pool.new }
 {
     hand_over!(
         pool,
@@ -141,7 +141,7 @@ pub fn put_back<C: Drop, A>(
     ensures connection { OrComesBack GivesBack conn result.outcome }
     ensures order { StaysPrompt result.tried pool.old at.0
         (acts.PutBack key.number conn broken) (answered (answer_of_put_back key.number) result.outcome) }
-    ensures bounds { AreBounded (come_back result.outcome) 2 result.tried pool.old pool.new }
+    ensures bounds { AreBounded (come_back result.outcome) 3 2 result.tried pool.old pool.new }
 {
     hand_over!(pool, at, pool.put_back(at, key, conn, broken))
 }
@@ -156,9 +156,25 @@ pub fn detach<C: Drop, A>(
         (acts.Detach key.number) result.outcome pool.new }
     ensures order { StaysPrompt result.tried pool.old at.0
         (acts.Detach key.number) (answered (answer_of_detach key.number) result.outcome) }
-    ensures bounds { AreBounded (come_back result.outcome) 2 result.tried pool.old pool.new }
+    ensures bounds { AreBounded (come_back result.outcome) 2 2 result.tried pool.old pool.new }
 {
     hand_over!(pool, at, pool.detach(at, key))
+}
+
+/// Evicts an idle connection, with hand-off. A get is notified only if another one was before.
+pub fn evict<C: Drop, A>(
+    pool: &mut PoolInternals<C, A>,
+    at: Moment,
+    key: Key,
+) -> HandedOver<Result<EvictAnswer<C>, Unfit>, C>
+    ensures step { Stepped (StepsAndTries result.tried) (answer_of_evict key.number) pool.old at.0
+        (acts.Evict key.number) result.outcome pool.new }
+    ensures connection { IfOk result.outcome (HandsOutIdle pool.old key.number) }
+    ensures order { StaysPrompt result.tried pool.old at.0
+        (acts.Evict key.number) (answered (answer_of_evict key.number) result.outcome) }
+    ensures bounds { AreBounded 0 2 1 result.tried pool.old pool.new }
+{
+    hand_over!(pool, at, pool.evict(at, key))
 }
 
 /// Reports that the attempt of a claimed approval succeeded, with hand-off.
@@ -173,7 +189,7 @@ pub fn opened<C: Drop, A>(
     ensures connection { OrComesBack HandsBack conn result.outcome }
     ensures order { StaysPrompt result.tried pool.old at.0
         (acts.Opened key.number conn) (answered (answer_of_opened key.number) result.outcome) }
-    ensures bounds { AreBounded 0 1 result.tried pool.old pool.new }
+    ensures bounds { AreBounded 0 3 1 result.tried pool.old pool.new }
 {
     hand_over!(pool, at, pool.opened(at, key, conn))
 }
@@ -190,7 +206,7 @@ pub fn add<C: Drop, A>(
     ensures connection { OrComesBack Refuses conn result.outcome }
     ensures order { StaysPrompt result.tried pool.old at.0
         (acts.Add conn broken) (answered answer_of_add result.outcome) }
-    ensures bounds { AreBounded 0 0 result.tried pool.old pool.new }
+    ensures bounds { AreBounded 0 1 0 result.tried pool.old pool.new }
 {
     hand_over!(pool, at, pool.add(at, conn, broken))
 }

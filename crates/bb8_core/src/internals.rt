@@ -1,8 +1,7 @@
 //! The state that a pool keeps behind its lock.
-ghost use Rattle.std.specs.Prelude.{◌≡◌, ◌+◌, ◌≤◌, IfSome, IfNone, IfOk, IfErr, is_some, true, false, None, Some};
+ghost use Rattle.std.specs.Prelude.{◌≡◌, IfSome, IfNone, IfOk, IfErr, is_some, true, false, None, Some};
 ghost use Rattle.bb8_ledger.specs.Acts as acts;
 ghost use Rattle.bb8_ledger.specs.Answers as answers;
-ghost use Rattle.bb8_tables.specs.AccessCount.{AddsReads};
 ghost use Rattle.bb8_core.specs.Decided as decided;
 ghost use Rattle.bb8_types.specs.Grants as grants;
 ghost use Rattle.bb8_types.specs.Settings.{settings_of, is_lawful};
@@ -49,7 +48,8 @@ use std::marker::Model;
 /// Each value represents some legal ledger, so it keeps the limits: see `limits`.
 ///
 /// A step has the clauses `step`, its event and result, and `bounds`: how many connections go out,
-/// how many are returned, the most table entries that it reads, and the most searches.
+/// how many are returned, the most table entries that it reads, and the most searches. `start` and
+/// `serve_at_once` make two steps in one, and say so in clauses of their own.
 ///
 /// Steps are in an impl for every `A`, so they cannot use `asking` to read a table uncounted. The
 /// queries can: they are in an impl for `UncountedAccess`.
@@ -157,64 +157,39 @@ impl<C: Drop, A> PoolInternals<C, A> {
         ensures some { IfSome result (λ served. ServesAtOnce self.old at.0 served self.new) }
         ensures none { IfNone result (IsAsBefore self.old self.new) }
         ensures cause { IfNone result (NotAtOnce self.old at.0) }
-        ensures bounds { IsBounded (one (is_some result)) 0 4 0 self.old self.new }
+        ensures bounds { IsBounded (one (is_some result)) 0 2 0 self.old self.new }
         ensures limits { IsWithinLimits self.old }
     {
         self.limits();
-        match self.serve_first(at, AccessCounter::none()) {
-            Ok(served) => Some(served),
-            Err(accesses) => {
-                self.accesses.end(accesses);
-                None
-            }
-        }
-    }
-
-    /// Does what `serve_at_once` does, in a step with this access counter. If nothing changes, it
-    /// returns the counter.
-    // Inlining saves 53 instructions of an unchecked pair.
-    #[inline(always)]
-    fn serve_first(
-        &mut self,
-        at: Moment,
-        mut accesses: AccessCounter,
-    ) -> Result<AtOnce<C>, AccessCounter>
-        ensures ok { IfOk result (λ served. ServesAtOnce self.old at.0 served self.new) }
-        ensures err { IfErr result (λ l. (self.new ≡ self.old) × AddsReads 1 0 accesses l) }
-        ensures cause { IfErr result (λ l. NotAtOnce self.old at.0) }
-        ensures bounds { IfOk result (λ served.
-            IsBounded 1 0 (accesses.reads + 2) accesses.searched self.old self.new) }
-    {
+        let mut accesses = AccessCounter::none();
         let now = self.latest.max(at.0);
         if checks_first(&self.config, &self.records, now, &mut accesses) {
-            return Err(accesses);
+            self.accesses.end(accesses);
+            return None;
         }
         if !self.gets.has_capacity() {
-            return Err(accesses);
-        }
-        // While no handle is alive, nothing is idle.
-        if self.records.idle_connections() == 0 {
-            return Err(accesses);
+            self.accesses.end(accesses);
+            return None;
         }
         let strategy = self.config.queue_strategy;
-        match self.records.take(strategy, Holder::Guard, &mut accesses) {
-            None => Err(accesses),
-            Some((key, conn)) => {
-                self.accesses.end(accesses);
-                self.latest = self.latest.max(at.0);
-                let get = self.gets.begin_and_end();
-                self.counters.started += 1;
-                let wanted = want_with_handle(&self.config, &self.records);
-                let grant = self.records.grant(wanted, false);
-                self.counters.serve(None, now);
-                Ok(AtOnce {
-                    get,
-                    key,
-                    conn,
-                    grant,
-                })
-            }
-        }
+        let Some((key, conn)) = self.records.take(strategy, Holder::Guard, &mut accesses) else {
+            self.accesses.end(accesses);
+            return None;
+        };
+        self.accesses.end(accesses);
+        self.latest = self.latest.max(at.0);
+        let get = self.gets.begin_and_end();
+        self.counters.started += 1;
+        // While no handle is alive, nothing is idle.
+        let wanted = want_with_handle(&self.config, &self.records);
+        let grant = self.records.grant(wanted, false);
+        self.counters.serve(None, now);
+        Some(AtOnce {
+            get,
+            key,
+            conn,
+            grant,
+        })
     }
 
     /// Begins a get and lets it try, as `begin` and `try_get` would, in one step. A get that is
@@ -226,7 +201,7 @@ impl<C: Drop, A> PoolInternals<C, A> {
         ensures ok { IfOk result (λ outcome. Starts self.old at.0 outcome self.new) }
         ensures err { IfErr result (λ u. Steps self.old at.0 acts.Begin answers.Unfit self.new
             × IsAsBefore self.old self.new) }
-        ensures bounds { IsBounded (if_fits starts_out result) 0 4 0 self.old self.new }
+        ensures bounds { IsBounded (if_fits starts_out result) 0 2 0 self.old self.new }
     {
         if !self.fits_begin() {
             self.accesses.end_unfit(AccessCounter::none());
@@ -241,7 +216,7 @@ impl<C: Drop, A> PoolInternals<C, A> {
     fn start_fitting(&mut self, at: Moment) -> Started<C>
         requires { IsFitting self.old acts.Begin }
         ensures step { Starts self.old at.0 result self.new }
-        ensures bounds { IsBounded (starts_out result) 0 3 0 self.old self.new }
+        ensures bounds { IsBounded (starts_out result) 0 2 0 self.old self.new }
     {
         let mut accesses = AccessCounter::none();
         let now = self.latest.max(at.0);
@@ -266,7 +241,7 @@ impl<C: Drop, A> PoolInternals<C, A> {
             .take(strategy, holder(checked, next), &mut accesses)
         {
             None => {
-                let get = self.gets.bear_waiting(now, &mut accesses);
+                let get = self.gets.bear_waiting(now);
                 self.accesses.end(accesses);
                 let alive = self.gets.alive();
                 let due = due_waiting(&self.config, self.handles, &self.records, alive);
@@ -277,7 +252,7 @@ impl<C: Drop, A> PoolInternals<C, A> {
                 let wanted = want_with_handle(&self.config, &self.records);
                 let grant = self.records.grant(wanted, false);
                 if checked {
-                    let get = self.gets.bear_holding(key.number, &mut accesses);
+                    let get = self.gets.bear_holding(key.number);
                     self.accesses.end(accesses);
                     return Started::Tried(get, TryAnswer::Taken(key, conn, grant));
                 }
@@ -360,7 +335,7 @@ impl<C: Drop, A> PoolInternals<C, A> {
     ) -> Result<CheckedOkAnswer, Unfit>
         ensures step { Stepped Steps (answer_of_checked_ok self.old.records.next)
             self.old at.0 (acts.CheckedOk get.number) result self.new }
-        ensures bounds { IsBounded 0 0 4 2 self.old self.new }
+        ensures bounds { IsBounded 0 0 2 2 self.old self.new }
     {
         let mut accesses = AccessCounter::none();
         match self.gets.finish_holding(get, &mut accesses) {
@@ -442,7 +417,7 @@ impl<C: Drop, A> PoolInternals<C, A> {
         ensures step { Stepped Steps answer_of_give_up self.old at.0
             (acts.GiveUp get.number (reason_of reason) None broken) result self.new }
         ensures connection { IfOk result (GivesBackHeld None) }
-        ensures bounds { IsBounded 0 0 4 1 self.old self.new }
+        ensures bounds { IsBounded 0 0 2 1 self.old self.new }
     {
         let mut accesses = AccessCounter::none();
         let Some(getting) = self.gets.end(get, &mut accesses) else {
@@ -542,7 +517,7 @@ impl<C: Drop, A> PoolInternals<C, A> {
         ensures step { Stepped Steps (answer_of_put_back k.number)
             self.old at.0 (acts.PutBack k.number conn broken) result self.new }
         ensures connection { OrComesBack GivesBack conn result }
-        ensures bounds { IsBounded 0 (come_back result) 4 2 self.old self.new }
+        ensures bounds { IsBounded 0 (come_back result) 3 2 self.old self.new }
     {
         let now = self.latest.max(at.0);
         let mut accesses = AccessCounter::none();
@@ -593,7 +568,7 @@ impl<C: Drop, A> PoolInternals<C, A> {
     pub fn detach(&mut self, at: Moment, k: Key) -> Result<DetachAnswer, Unfit>
         ensures step { Stepped Steps (answer_of_detach k.number)
             self.old at.0 (acts.Detach k.number) result self.new }
-        ensures bounds { IsBounded 0 (come_back result) 4 2 self.old self.new }
+        ensures bounds { IsBounded 0 (come_back result) 2 2 self.old self.new }
     {
         let mut accesses = AccessCounter::none();
         if !self.records.is_guarded(k, &mut accesses) {
@@ -622,7 +597,7 @@ impl<C: Drop, A> PoolInternals<C, A> {
         ensures step { Stepped Steps (answer_of_opened a.number)
             self.old at.0 (acts.Opened a.number conn) result self.new }
         ensures connection { OrComesBack HandsBack conn result }
-        ensures bounds { IsBounded 0 0 4 1 self.old self.new }
+        ensures bounds { IsBounded 0 0 3 1 self.old self.new }
     {
         let now = self.latest.max(at.0);
         let mut accesses = AccessCounter::none();
@@ -655,7 +630,7 @@ impl<C: Drop, A> PoolInternals<C, A> {
     pub fn failed(&mut self, at: Moment, approval: Key) -> Result<FailedAnswer, Unfit>
         ensures step { Stepped Steps answer_of_failed self.old at.0 (acts.Failed approval.number)
             result self.new }
-        ensures bounds { IsBounded 0 0 4 1 self.old self.new }
+        ensures bounds { IsBounded 0 0 1 1 self.old self.new }
     {
         let mut accesses = AccessCounter::none();
         if !self.records.end_claimed(approval, &mut accesses) {
@@ -675,7 +650,7 @@ impl<C: Drop, A> PoolInternals<C, A> {
         ensures step { Stepped Steps answer_of_add self.old at.0 (acts.Add conn broken)
             result self.new }
         ensures connection { OrComesBack Refuses conn result }
-        ensures bounds { IsBounded 0 0 4 0 self.old self.new }
+        ensures bounds { IsBounded 0 0 1 0 self.old self.new }
     {
         if !self.fits_add() {
             self.accesses.end_unfit(AccessCounter::none());

@@ -539,7 +539,9 @@ evicted_and_made_good =
     ∷ 5 ▸ Evict 1 ⇒ Closed 1 (grant 0 at 3) None
     ∷ 5 ▸ Evict 1 ⇒ Unfit
     ∷ 5 ▸ Evict 0 ⇒ Closed 0 (grant 1 at 3) None
+    ∷ 5 ▸ Evict 3 ⇒ Unfit
     ∷ 5 ▸ Claim ⇒ Claimed (Some 3)
+    ∷ 5 ▸ Evict 3 ⇒ Unfit
     ∷ 5 ▸ opens 3 ⇒ Entered 3 None
     ∷ 5 ▸ Begin ⇒ Begun 0
     ∷ 5 ▸ Try 0 ⇒ Served 2 (grant 1 at 4)
@@ -551,6 +553,7 @@ evicted_from_waiter =
     0 ▸ adds 0 ⇒ Added 0 None
     ∷ 0 ▸ Begin ⇒ Begun 0
     ∷ 0 ▸ Try 0 ⇒ Served 0 (grant 0 at 1)
+    ∷ 0 ▸ Evict 0 ⇒ Unfit
     ∷ 0 ▸ Begin ⇒ Begun 1
     ∷ 0 ▸ Try 1 ⇒ Waiting (grant 0 at 1)
     ∷ 0 ▸ Begin ⇒ Begun 2

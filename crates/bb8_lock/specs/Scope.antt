@@ -21,10 +21,6 @@ module _ {T : Type 0} where
   Holds (Some guard) t = mutex_guard_value guard ≡ t
   Holds None t = ⊥
 
-  -- a step leads from the held data, or else from whatever is under the lock, to the data held then
-  abbrev pub LeadsHeld : (T → T → Type 0) → Option (MutexGuard T) → Option (MutexGuard T) → Type 0
-  LeadsHeld Step held held' = (t : T) × (t' : T) × StartsAt held t × Holds held' t' × Step t t'
-
 -- A lock with the user callbacks outside it, as one value.
 module _ {S T : Type 0} where
   -- the scope shares this; the lock is free, and no signal is noted
@@ -35,7 +31,7 @@ module _ {S T : Type 0} where
   -- then. Its signals, which may depend on that, are added to the noted ones, and no others.
   abbrev pub Leads : (T → T → Type 0) → (T → Signals) → LockScope S T → LockScope S T → Type 0
   Leads Step its_signals x x' =
-      LeadsHeld (λ t t'. Step t t' × (x'.signals ≡ joined (its_signals t') x.signals)) x.held x'.held × (x'.shared ≡ x.shared)
+      ((t : T) × (t' : T) × StartsAt x.held t × Holds x'.held t' × Step t t' × (x'.signals ≡ joined (its_signals t') x.signals)) × (x'.shared ≡ x.shared)
 
   -- the noted signals are notified; afterwards the lock is free, and no signal is noted
   abbrev pub Frees : (S → Signals → Type 0) → LockScope S T → LockScope S T → Type 0

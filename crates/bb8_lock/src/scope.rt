@@ -15,7 +15,7 @@ use bb8_core::internals::{
     GiveUpAnswer, Grant, Key, LeaveAnswer, Looked, OpenedAnswer, PutBackAnswer, ReapAnswer, Reason,
     Unfit,
 };
-use bb8_gets::{FirstTry, GetHome, Joining, LetGo, Passed, Returned, Taken, Tried};
+use bb8_gets::{FirstTry, GetHome, Joining, LetGo, Passed, Returned, Tried};
 use bb8_tasks::Home;
 use std::sync::MutexGuard;
 
@@ -43,7 +43,12 @@ impl<G: PoolTypes, L: Permits> Locking<Locked<G::Connection, L>> for Shared<G, L
 
     #[inline(always)]
     fn notify(&self, signals: Signals) {
-        self.locked.notify(signals)
+        if signals.gets {
+            self.locked.gets.notify();
+        }
+        if signals.drivers {
+            self.locked.drivers.notify();
+        }
     }
 }
 
@@ -55,7 +60,7 @@ impl<S: Locking<T>, T> OpensScope<S, T> for S {
         LockScope {
             shared: self,
             held: None,
-            signals: Signals::none(),
+            signals: Signals::NONE,
         }
     }
 }
@@ -132,7 +137,7 @@ impl<C, S: Locking<T>, T: GetHome<C> + Ends> GetHome<C> for LockScope<'_, S, T> 
     fn release(&mut self) {
         self.held = None;
         self.shared.notify(self.signals);
-        self.signals = Signals::none();
+        self.signals = Signals::NONE;
     }
 
     #[inline(always)]
@@ -305,7 +310,7 @@ impl<C, S: Locking<T>, T: Home<C>> Home<C> for LockScope<'_, S, T> {
         drop(guard);
         let signals = match &answer {
             Ok(OpenedAnswer::Entered(outcome)) => Signals::of(*outcome, 0),
-            Ok(OpenedAnswer::Late(_)) | Err(_) => Signals::none(),
+            Ok(OpenedAnswer::Late(_)) | Err(_) => Signals::NONE,
         };
         self.shared.notify(signals);
         answer

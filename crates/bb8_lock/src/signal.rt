@@ -9,7 +9,7 @@ ghost use Rattle.bb8_core.specs.StepAnswers.{answer_of_give_up};
 ghost use Rattle.bb8_gets.specs.Outcomes.{answer_of_tried};
 ghost use Rattle.bb8_lock.specs.declared.signal.Signals.{Signals as SignalsOf};
 ghost use Rattle.bb8_lock.specs.declared.signal.Sleeper.{Sleeper as SleeperOf};
-ghost use Rattle.bb8_lock.specs.Signals.{signals_for, signals_of, joined, silent};
+ghost use Rattle.bb8_lock.specs.Signals.{signals_for, signals_of, joined};
 
 use bb8_core::internals::{GetKey, GiveUpAnswer};
 use bb8_gets::Tried;
@@ -77,7 +77,7 @@ pub trait Locking<T> {
 /// The signals to notify once the lock is released.
 #[derive(Clone, Copy)]
 pub struct Signals {
-    gets: bool,
+    pub(crate) gets: bool,
     pub(crate) drivers: bool,
 }
 
@@ -131,30 +131,14 @@ impl<T> SignalLock<T> {
             Sleeper::Driver => &self.drivers,
         }
     }
-
-    /// Notifies these signals.
-    #[inline(always)]
-    pub(crate) fn notify(&self, signals: Signals) {
-        if signals.gets {
-            self.gets.notify();
-        }
-        if signals.drivers {
-            self.drivers.notify();
-        }
-    }
 }
 
 impl Signals {
-    /// Returns no signal.
-    #[inline(always)]
-    pub(crate) fn none() -> Self
-        ensures { result ≡ silent }
-    {
-        Signals {
-            gets: false,
-            drivers: false,
-        }
-    }
+    /// No signal.
+    pub(crate) const NONE: Self = Signals {
+        gets: false,
+        drivers: false,
+    };
 
     /// Returns the gets' signal if a get was notified, which may be served at its next poll, and
     /// the drivers' signal if approvals were granted, which a driver claims at its next turn.
@@ -194,7 +178,7 @@ impl Signals {
     {
         match tried {
             Tried::Served(_, grant) | Tried::Taken(_, grant) | Tried::Waiting(grant) => {
-                self.note(None, grant.count)
+                self.drivers = (grant.count > 0) | self.drivers;
             }
         }
     }

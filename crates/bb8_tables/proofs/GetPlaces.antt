@@ -1,17 +1,17 @@
 -- The code's side of each change of the gets: what it does to the fields, seen in what they mean.
-use Rattle.bb8_tables.proofs.Words.{subst, ◌≡◌, ◌≢◌, ℕ, List, ◌+◌, ◌-◌, ◌<◌, ◌≤◌, Bool, true, false, [], ◌∷◌, ◌++◌, length, set, slice_get, arith, Option, Some, None, is_some, IsSome, refl, sym, ap, ◌∙◌, get, tally, one, TableView, slot_at, Absent, GetPlace, Active, Waiting, Getting, Slot, is_unnotified, get_in_wait, get_with_place, GetsView, IsTable, view_of_gets, AreGoodGets, AreWaitingPlaces, removed_inserted}
+use Rattle.bb8_tables.proofs.Words.{subst, ◌≡◌, ◌≢◌, ℕ, List, ◌+◌, ◌-◌, ◌<◌, ◌≤◌, Bool, true, false, [], ◌∷◌, ◌++◌, length, set, slice_get, arith, Option, Some, None, is_some, IsSome, refl, sym, ap, ◌∙◌, get, tally, one, TableView, slot_at, Absent, GetPlace, Active, Waiting, Getting, Slot, is_unnotified, get_in_wait, get_with_place, GetsView, IsTable, view_of_gets, AreGoodGets, AreWaitingPlaces, removed_inserted, inserted_again, insert, max, FinMap, nat_cmp}
 use Rattle.std.proofs.Common.{IfSome}
 use Rattle.bb8_tables.specs.declared.gets.Gets.TheInside.{Inside}
 use Rattle.bb8_tables.specs.Machine as machine
 use Rattle.bb8_tables.proofs.Slots.{Updates, set_at, set_within, tally_set, tally_at, table_set, table_added, table_removed, table_kept}
-use Rattle.bb8_tables.proofs.Lines.{other_line, turned_line, free_line, same_line, places_without, places_absent}
+use Rattle.bb8_tables.proofs.Lines.{other_line, turned_line, free_line, added_line, same_line, places_without, places_absent, free_absent}
 use Rattle.bb8_tables.proofs.Numbers.{numbers_all, numbers_fresh}
 use Rattle.bb8_tables.proofs.Views.{same_gets}
 use Rattle.bb8_tables.proofs.Spelled.{without_absent}
 use Rattle.bb8_types.specs.declared.standing.GetPlace.TheVariants.{Holding}
 use Rattle.bb8_tables.proofs.Slots
 use Rattle.bb8_tables.proofs.TablePlaces
-use Rattle.bb8_tables.proofs.TablePlaces.{numbered, Restands, Frees, stands_then, number_at, no_number_at, set_shown, set_line, set_pushed, line_without, cleared_shown, cleared_line, added_shown}
+use Rattle.bb8_tables.proofs.TablePlaces.{numbered, Restands, Frees, stands_then, number_at, no_number_at, set_shown, set_line, set_pushed, stands_within, line_without, cleared_shown, cleared_line, added_shown, added_pushed}
 
 pub shown_at : (a : Inside) (q i : ℕ) (x : Slot Getting) → AreGoodGets a → slot_at a.slots i ≡ Some x → x.number ≡ q → get (view_of_gets a).places q ≡ Some x.standing
 shown_at a q i x good e same = TablePlaces.shown_at q i good.table e same
@@ -59,26 +59,55 @@ module _ (a : Inside) (slots : TableView (Slot Getting)) (peak : ℕ) (good : Ar
 
 -- ---- begin
 
--- a new get at a free place
-module _ (a : Inside) (place : ℕ) (slots : TableView (Slot Getting)) (good : AreGoodGets a) (free : slot_at a.slots place ≡ None) (within : place < length a.slots.slots)
+-- with the next get in this state, and this queue
+abbrev with_born : Getting → List ℕ → GetsView → GetsView
+with_born s waiting v = record v { next = v.next + 1; places = insert v.places v.next s; waiting = waiting; alive = v.alive + 1; peak = max v.peak (v.alive + 1) }
+
+-- a new get at a free place, in this state
+module _ (a : Inside) (place : ℕ) (s : Getting) (slots : TableView (Slot Getting)) (good : AreGoodGets a) (free : slot_at a.slots place ≡ None) (within : place < length a.slots.slots)
     (takes : slots ≡ record a.slots {
-      slots = set a.slots.slots place (Some (record { number = a.next; standing = record { place = Active; first_wait = None } }));
+      slots = set a.slots.slots place (Some (record { number = a.next; standing = s }));
       free = a.slots.free - 1;
     }) (room : slots.free + 1 ≡ a.slots.free) where
   abbrev born : Slot Getting
-  born = record { number = a.next; standing = record { place = Active; first_wait = None } }
+  born = record { number = a.next; standing = s }
 
-  pub begin_good : a.alive < a.peak → AreGoodGets (record a { next = a.next + 1; slots = slots; alive = a.alive + 1 })
-  begin_good few =
+  grown_good : (line : List ℕ) → a.alive < a.peak → AreWaitingPlaces (set a.slots.slots place (Some born)) line
+      → AreGoodGets (record a { next = a.next + 1; slots = record slots { line = line }; alive = a.alive + 1 })
+  grown_good line few waiting =
       let u = set_within a.slots.slots place (Some born) within in
       let r : (a.slots.free - 1) + 1 ≡ a.slots.free = rw takes at room in
-      rw takes (changed_good false true good free u refl refl (omega arith) (omega arith) (omega arith) (omega (arith, good.sizes.alive_few)) (table_added good.table refl u)
-      (free_line good.waiting free u))
+      rw takes (changed_good false true good free u refl refl (omega arith) (omega arith) (omega arith) (omega (arith, good.sizes.alive_few)) (table_added good.table refl u) waiting)
 
-  pub begin_view : a.alive < a.peak → view_of_gets (record a { next = a.next + 1; slots = slots; alive = a.alive + 1 }) ≡ machine.after_begin (view_of_gets a)
-  begin_view few = rw takes (same_gets _ _ refl
-      (added_shown a.slots.slots a.next place born.standing free within good.table) (TablePlaces.added_line a.slots.slots a.next place born.standing free within a.slots.line good.waiting)
+  -- in no queue
+  pub born_good : a.alive < a.peak → AreGoodGets (record a { next = a.next + 1; slots = slots; alive = a.alive + 1 })
+  born_good few = rw takes (rw takes at (grown_good a.slots.line few (free_line good.waiting free (set_within a.slots.slots place (Some born) within))))
+
+  pub born_view : a.alive < a.peak → view_of_gets (record a { next = a.next + 1; slots = slots; alive = a.alive + 1 }) ≡ with_born s (view_of_gets a).waiting (view_of_gets a)
+  born_view few = rw takes (same_gets _ _ refl
+      (added_shown a.slots.slots a.next place s free within good.table) (TablePlaces.added_line a.slots.slots a.next place s free within a.slots.line good.waiting)
       refl (omega arith))
+
+  -- at the back of the queue
+  pub born_stands : IsSome (slot_at slots place)
+  born_stands = rw takes (stands_within a.slots.slots place born within)
+
+  pub born_absent : Absent place slots.line
+  born_absent = rw takes (free_absent a.slots.slots a.slots.line place good.waiting free)
+
+  module _ (queued : TableView (Slot Getting)) (in_line : queued ≡ record slots { line = slots.line ++ place ∷ [] }) where
+    pub queued_good : a.alive < a.peak → is_unnotified s.place ≡ true → AreGoodGets (record a { next = a.next + 1; slots = queued; alive = a.alive + 1 })
+    queued_good few on = rw (in_line, takes) (rw takes at (grown_good (a.slots.line ++ place ∷ []) few (added_line place good.waiting free (set_within a.slots.slots place (Some born) within) refl on)))
+
+    pub queued_view : a.alive < a.peak → view_of_gets (record a { next = a.next + 1; slots = queued; alive = a.alive + 1 }) ≡ with_born s ((view_of_gets a).waiting ++ a.next ∷ []) (view_of_gets a)
+    queued_view few = rw (in_line, takes) (same_gets _ _ refl
+        (added_shown a.slots.slots a.next place s free within good.table) (added_pushed a.slots.slots a.next place s free within a.slots.line good.waiting)
+        refl (omega arith))
+
+-- which is a begin, and then the change to this state
+pub begun_then : (f : Option Getting → Getting) (waiting : List ℕ) (v : GetsView) → with_born (f (Some (record { place = Active; first_wait = None }))) waiting v
+    ≡ record (machine.after_begin v) { places = insert (machine.after_begin v).places v.next (f (get (machine.after_begin v).places v.next)); waiting = waiting }
+begun_then f waiting v = ap (λ (m : FinMap nat_cmp Getting). record (machine.after_begin v) { places = m; waiting = waiting }) (inserted_again v.places v.next f (record { place = Active; first_wait = None }))
 
 -- ---- begin and end at once
 
@@ -196,47 +225,6 @@ module _ (a : Inside) (place q : ℕ) (x : Slot Getting) (slots : TableView (Slo
       (cleared_shown q place good.table at_place number_is)
       (cleared_line q place good.table at_place number_is a.slots.line ∙ line_without q place good.table at_place number_is a.slots.line good.waiting)
       refl refl)
-
--- ---- born elsewhere
-
--- a new get that has another state at once
-module _ (a : Inside) (place : ℕ) (mid : TableView (Slot Getting)) (good : AreGoodGets a) (free : slot_at a.slots place ≡ None) (within : place < length a.slots.slots)
-    (takes : mid ≡ record a.slots {
-      slots = set a.slots.slots place (Some (record { number = a.next; standing = record { place = Active; first_wait = None } }));
-      free = a.slots.free - 1;
-    }) (room : mid.free + 1 ≡ a.slots.free) (few : a.alive < a.peak) where
-  abbrev begun : Inside
-  begun = record a { next = a.next + 1; slots = mid; alive = a.alive + 1 }
-
-  abbrev newborn : Slot Getting
-  newborn = record { number = a.next; standing = record { place = Active; first_wait = None } }
-
-  pub stands_newborn : slot_at mid place ≡ Some newborn
-  stands_newborn = rw takes (set_within a.slots.slots place (Some newborn) within).changed
-
-  begun_good : AreGoodGets begun
-  begun_good = begin_good a place mid good free within takes room few
-
-  begun_view : view_of_gets begun ≡ machine.after_begin (view_of_gets a)
-  begun_view = begin_view a place mid good free within takes room few
-
-  pub turned_good : (p : GetPlace) (slots : TableView (Slot Getting)) → Restands mid slots place (get_with_place p) → AreGoodGets (record begun { slots = slots })
-  turned_good p slots sets = turn_good begun place a.next p newborn slots begun_good stands_newborn refl refl sets
-
-  pub turned_view : (p : GetPlace) (slots : TableView (Slot Getting)) → Restands mid slots place (get_with_place p)
-      → view_of_gets (record begun { slots = slots }) ≡ machine.after_turn p a.next (machine.after_begin (view_of_gets a))
-  turned_view p slots sets = turn_view begun place a.next p newborn slots begun_good stands_newborn refl refl sets ∙ ap (machine.after_turn p a.next) begun_view
-
-  pub newborn_absent : Absent place mid.line
-  newborn_absent = wait_absent begun place newborn begun_good stands_newborn refl
-
-  pub waiting_good : (now : ℕ) (next slots : TableView (Slot Getting)) → Restands mid next place (get_in_wait now) → slots ≡ record next { line = next.line ++ place ∷ [] }
-      → AreGoodGets (record begun { slots = slots })
-  waiting_good now next slots sets in_line = wait_good begun now place a.next newborn next slots begun_good stands_newborn refl refl sets in_line
-
-  pub waiting_view : (now : ℕ) (next slots : TableView (Slot Getting)) → Restands mid next place (get_in_wait now) → slots ≡ record next { line = next.line ++ place ∷ [] }
-      → view_of_gets (record begun { slots = slots }) ≡ machine.after_wait now a.next (machine.after_begin (view_of_gets a))
-  waiting_view now next slots sets in_line = wait_view begun now place a.next newborn next slots begun_good stands_newborn refl refl sets in_line ∙ ap (machine.after_wait now a.next) begun_view
 
 -- a get that holds a connection is in no line, so its place goes as any other
 pub released : (a : Inside) (place k : ℕ) (x : Slot Getting) (slots : TableView (Slot Getting)) → AreGoodGets a → slot_at a.slots place ≡ Some x → x.standing.place ≡ Holding k

@@ -40,4 +40,4 @@ pub use Rattle.std.specs.declared.alloc.AllocError.{AllocError}
 pub use Rattle.std.specs.Vec.{with_item}
 pub use Rattle.bb8_tables.specs.declared.records.Records.TheInside.{Inside}
 pub use Rattle.bb8_types.proofs.Places.{approval_from, conn_from, held_conn, idle_from, idle_is, unclaimed_from, unclaimed_is}
-pub use Rattle.bb8_types.proofs.Numbered.{get_inserted, get_removed, removed_inserted, same_gets, same_or_not}
+pub use Rattle.bb8_types.proofs.Numbered.{get_inserted, get_removed, inserted_again, removed_inserted, same_gets, same_or_not}

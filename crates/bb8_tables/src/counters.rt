@@ -38,7 +38,7 @@ pub struct Counters {
     pub idle_timeout: u64,
     /// Connections that were closed as they had been retired.
     pub retired: u64,
-    /// Connections that were detached.
+    /// Connections that were detached or evicted.
     pub detached: u64,
 }
 
@@ -149,7 +149,7 @@ impl Counters {
         self.retired += closed as u64;
     }
 
-    /// Counts a detached connection.
+    /// Counts a detached or evicted connection.
     pub fn detach(&mut self)
         requires { self.old.detached < end_of_numbers }
         ensures { self.new ≡ record self.old { detached = self.old.detached + 1 } }

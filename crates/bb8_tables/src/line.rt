@@ -1,6 +1,6 @@
 //! A doubly linked list of table indexes. An index is added at the back, and can be removed from
 //! anywhere.
-ghost use Rattle.std.specs.Prelude.{◌≡◌, ◌≢◌, ℕ, List, ◌+◌, ◌-◌, ◌<◌, ◌≤◌, ◌++◌, ◌∷◌, [], length, slice_get, Some, OnOk, OnErr};
+ghost use Rattle.std.specs.Prelude.{◌≡◌, ℕ, List, ◌+◌, ◌-◌, ◌<◌, ◌≤◌, ◌++◌, ◌∷◌, [], length, slice_get, Some, OnOk, OnErr};
 ghost use Rattle.std.specs.Vec.{vec_len};
 ghost use Rattle.bb8_tables.specs.Ordered.{Ordered, most_places, after_of, before_of, JoinsAt};
 ghost use Rattle.bb8_tables.specs.Spelled.{Absent};
@@ -44,30 +44,6 @@ impl Model for Line {
     ghost invariant = { IsGood };
 }
 
-/// Sets the index that follows `at`.
-#[inline]
-fn set_after(links: &mut [Link], at: u32, to: u32)
-    requires { at < length links.old }
-    ensures is { after_of links.new at ≡ to }
-    ensures kept { (i : ℕ) → i ≢ at → after_of links.new i ≡ after_of links.old i }
-    ensures before { (i : ℕ) → before_of links.new i ≡ before_of links.old i }
-    ensures len { length links.new ≡ length links.old }
-{
-    links[at as usize].after = to;
-}
-
-/// Sets the index that precedes `at`.
-#[inline]
-fn set_before(links: &mut [Link], at: u32, to: u32)
-    requires { at < length links.old }
-    ensures is { before_of links.new at ≡ to }
-    ensures kept { (i : ℕ) → i ≢ at → before_of links.new i ≡ before_of links.old i }
-    ensures after { (i : ℕ) → after_of links.new i ≡ after_of links.old i }
-    ensures len { length links.new ≡ length links.old }
-{
-    links[at as usize].before = to;
-}
-
 impl Links {
     /// Returns the indexes before and after `at`.
     #[inline]
@@ -108,8 +84,8 @@ impl Links {
         ensures len { vec_len self.new.entries ≡ vec_len self.old.entries }
     {
         let entries = self.entries.as_mut_slice();
-        set_after(entries, left, right);
-        set_before(entries, right, left);
+        entries[left as usize].after = right;
+        entries[right as usize].before = left;
     }
 }
 

@@ -760,6 +760,7 @@ impl<C: Drop> Records<C> {
         ensures value { result ≡ places.stands places.is_idle
             (map.get self.now.places k.number) }
         ensures examined { AddsReads 1 1 accesses.old accesses.new }
+        ensures counted { min (accesses.old.reads + 1) end_of_numbers ≤ accesses.new.reads }
     {
         match self.slots.slot(k.number, k.place, accesses) {
             None => false,

@@ -444,6 +444,15 @@ module _ {S : Type 0} where
   pub same_gets : (m n : FinMap nat_cmp S) → ((q : ℕ) → get m q ≡ get n q) → m ≡ n
   same_gets m n h = same_map nat_cmp_total nat_cmp-IsAntisymmetric m n h
 
+  -- a key that is inserted twice has its later value
+  pub inserted_again : (m : FinMap nat_cmp S) (k : ℕ) (f : Option S → S) (s : S) → insert m k (f (Some s)) ≡ insert (insert m k s) k (f (get (insert m k s) k))
+  inserted_again m k f s = same_gets _ _ (λ q. get_inserted m k (f (Some s)) q ∙ go q (eqb q k)
+      ∙ sym (get_inserted (insert m k s) k (f (get (insert m k s) k)) q ∙ ap (cond (eqb q k) (Some (f (get (insert m k s) k)))) (get_inserted m k s q)))
+    where
+      go : (q : ℕ) (b : Bool) → cond b (Some (f (Some s))) (get m q) ≡ cond b (Some (f (get (insert m k s) k))) (cond b (Some s) (get m q))
+      go q true = ap (λ (o : Option S). Some (f o)) (sym (get_inserted m k s k ∙ ap (λ (b : Bool). cond b (Some s) (get m k)) (eqb_self k)))
+      go q false = refl
+
   -- a new key that is taken out again leaves nothing behind
   pub removed_inserted : (m : FinMap nat_cmp S) (k : ℕ) (s : S) → get m k ≡ None → remove (insert m k s) k ≡ m
   removed_inserted m k s absent = same_gets _ _ (λ q. get_removed (insert m k s) k q ∙ ap (cond (eqb q k) None) (get_inserted m k s q) ∙ go q (eqb q k) refl)

@@ -1,5 +1,5 @@
 //! Compares `start` and `serve_at_once`, which the package `bb8` calls, with `begin` and `try_get`,
-//! which scripts run: two pools take the same random events, and have to have the same state.
+//! which scripts run: three pools take the same random events, and have to have the same state.
 
 #[path = "../examples/random_scripts/events.rs"]
 mod events;

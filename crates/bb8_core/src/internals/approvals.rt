@@ -1,5 +1,5 @@
 //! Grants and claims approvals.
-ghost use Rattle.std.specs.Prelude.{◌≡◌, ◌≤◌};
+ghost use Rattle.std.specs.Prelude.{◌≡◌};
 ghost use Rattle.bb8_ledger.specs.Acts as acts;
 ghost use Rattle.bb8_ledger.specs.Answers as answers;
 ghost use Rattle.bb8_core.specs.StepBounds.{IsBounded};
@@ -41,7 +41,7 @@ impl<C: Drop, A> PoolInternals<C, A> {
     /// Claims the unclaimed approval with the lowest number.
     pub fn claim(&mut self, at: Moment) -> ClaimAnswer
         ensures step { Steps self.old at.0 acts.Claim (answer_of_claim result) self.new }
-        ensures bounds { IsBounded 0 0 4 0 self.old self.new }
+        ensures bounds { IsBounded 0 0 1 0 self.old self.new }
     {
         self.latest = self.latest.max(at.0);
         let mut accesses = AccessCounter::none();

@@ -27,7 +27,7 @@ impl<C: Drop, A> PoolInternals<C, A> {
         let _ = &self.config;
     }
 
-    /// Returns how many table entries the latest step read or changed.
+    /// Returns how often the latest step read or changed a table entry.
     pub fn examined(&self) -> u64
         ensures { result ≡ examined self.now }
     {

@@ -1,9 +1,9 @@
 //! The reap, the eviction of one idle connection, and the retirement of everything that exists.
-ghost use Rattle.std.specs.Prelude.{◌≡◌, ◌+◌, ◌≤◌, IfOk};
+ghost use Rattle.std.specs.Prelude.{◌≡◌, ◌+◌, IfOk};
 ghost use Rattle.bb8_ledger.specs.Acts as acts;
 ghost use Rattle.bb8_core.specs.Closings.{OffersReaped, OffersRetired};
 ghost use Rattle.bb8_core.specs.StepBounds.{out_of, IsBounded};
-ghost use Rattle.bb8_core.specs.StateView.{Represents, Steps};
+ghost use Rattle.bb8_core.specs.StateView.{Steps};
 ghost use Rattle.bb8_core.specs.StepAnswers.{answer_of_evict, answer_of_reap, closed_in, HandsOutIdle};
 ghost use Rattle.bb8_core.specs.Unfit.{Stepped};
 
@@ -34,7 +34,7 @@ impl<C: Drop, A> PoolInternals<C, A> {
         ensures step { Stepped Steps (answer_of_evict k.number)
             self.old at.0 (acts.Evict k.number) result self.new }
         ensures connection { IfOk result (HandsOutIdle self.old k.number) }
-        ensures bounds { IsBounded 0 0 4 1 self.old self.new }
+        ensures bounds { IsBounded 0 0 2 1 self.old self.new }
     {
         let mut accesses = AccessCounter::none();
         match self.records.evict(k, &mut accesses) {

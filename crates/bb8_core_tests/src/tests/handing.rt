@@ -3,10 +3,12 @@
 use super::steps::{Colour, NOW};
 use super::{assert_equal, granted, unchecked};
 use bb8_core::api::Config;
-use bb8_core::handing::{HandedOver, add, checked_err, give_back, give_up, opened, put_back};
+use bb8_core::handing::{
+    HandedOver, add, checked_err, evict, give_back, give_up, opened, put_back,
+};
 use bb8_core::internals::{
-    AddAnswer, BeginAnswer, CheckedErrAnswer, ClaimAnswer, GetKey, GiveUpAnswer, Key, OpenedAnswer,
-    PoolInternals, PutBackAnswer, Reason, TryAnswer,
+    AddAnswer, BeginAnswer, CheckedErrAnswer, ClaimAnswer, EvictAnswer, GetKey, GiveUpAnswer, Key,
+    OpenedAnswer, PoolInternals, PutBackAnswer, Reason, TryAnswer,
 };
 use std::alloc::Global;
 use std::process::Abort;
@@ -177,4 +179,29 @@ fn give_up_passes_the_notification_on(rt: HostRuntime) {
     };
     assert_equal(&rt, get.number, 2);
     out(&rt, tried, false, Colour::Green);
+}
+
+/// Get 0 has the only connection, and 1 and 2 wait. It is returned without a hand-off, and evicted
+/// before 1, which was notified, tries. 2 is notified, too, and requests another.
+#[test]
+fn eviction_hands_off(rt: HostRuntime) {
+    let mut pool = one(&rt, rt.alloc(), false);
+    wait(&rt, &mut pool);
+    wait(&rt, &mut pool);
+    wait(&rt, &mut pool);
+    let approval = claim(&rt, &mut pool, 0);
+    let HandedOver { tried, .. } = opened(&mut pool, NOW, approval, Colour::Red);
+    let (key, conn) = out(&rt, tried, false, Colour::Red);
+    let HandedOver { outcome, tried } = evict(&mut pool, NOW, key);
+    assert!(rt; outcome.is_err());
+    assert!(rt; tried.is_none());
+    let Ok(PutBackAnswer::Kept(Some(_))) = pool.put_back(NOW, key, conn, false) else {
+        panic!(rt; "nobody was notified");
+    };
+    let HandedOver { outcome, tried } = evict(&mut pool, NOW, key);
+    let Ok(EvictAnswer::Evicted(Colour::Red, _, Some(get))) = outcome else {
+        panic!(rt; "nobody was notified");
+    };
+    assert_equal(&rt, get.number, 2);
+    assert_waits(&rt, tried, 1, 1);
 }

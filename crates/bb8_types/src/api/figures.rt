@@ -35,7 +35,7 @@ pub struct Statistics {
     /// Connections closed because they were retired. One that also exceeded `max_lifetime` counts
     /// here alone.
     pub connections_closed_retired: u64,
-    /// Connections that were detached from the pool.
+    /// Connections that were detached from the pool, or evicted.
     pub connections_detached: u64,
     pub ghost answered_began: { get_direct + get_waited + get_timed_out + get_cancelled ≤ get_started },
 }

@@ -147,6 +147,16 @@ pub enum EvictAnswer<C> {
     Evicted(C, Grant, Option<GetKey>),
 }
 
+impl<C> EvictAnswer<C> {
+    /// Returns the notified get, if there is one.
+    #[inline]
+    pub fn notified(&self) -> Option<GetKey> {
+        match self {
+            EvictAnswer::Evicted(_, _, get) => *get,
+        }
+    }
+}
+
 /// The result of `put_back`.
 pub enum PutBackAnswer<C> {
     /// The connection is idle; the notified get.

@@ -8,8 +8,8 @@
 
 use crate::bb8_core::api::Moment;
 use crate::bb8_core::internals::{
-    AddAnswer, CheckedErrAnswer, DetachAnswer, GetKey, GiveUpAnswer, Key, OpenedAnswer,
-    PoolInternals, PutBackAnswer, Reason, TryAnswer, Unfit,
+    AddAnswer, CheckedErrAnswer, DetachAnswer, EvictAnswer, GetKey, GiveUpAnswer, Key,
+    OpenedAnswer, PoolInternals, PutBackAnswer, Reason, TryAnswer, Unfit,
 };
 
 /// The result of a step with hand-off.
@@ -113,6 +113,15 @@ pub fn detach<C, A>(
     key: Key,
 ) -> HandedOver<Result<DetachAnswer, Unfit>, C> {
     hand_over!(pool, at, pool.detach(at, key))
+}
+
+/// Evicts an idle connection, with hand-off. A get is notified only if another one was before.
+pub fn evict<C, A>(
+    pool: &mut PoolInternals<C, A>,
+    at: Moment,
+    key: Key,
+) -> HandedOver<Result<EvictAnswer<C>, Unfit>, C> {
+    hand_over!(pool, at, pool.evict(at, key))
 }
 
 /// Reports that the attempt of a claimed approval succeeded, with hand-off.

@@ -34,7 +34,8 @@ use crate::kit::Global;
 /// Each value represents some legal ledger, so it keeps the limits: see `limits`.
 ///
 /// A step has the clauses `step`, its event and result, and `bounds`: how many connections go out,
-/// how many are returned, the most table entries that it reads, and the most searches.
+/// how many are returned, the most table entries that it reads, and the most searches. `start` and
+/// `serve_at_once` make two steps in one, and say so in clauses of their own.
 ///
 /// Steps are in an impl for every `A`, so they cannot use `asking` to read a table uncounted. The
 /// queries can: they are in an impl for `UncountedAccess`.
@@ -114,54 +115,35 @@ impl<C, A> PoolInternals<C, A> {
     #[inline(always)]
     pub fn serve_at_once(&mut self, at: Moment) -> Option<AtOnce<C>> {
         self.limits();
-        match self.serve_first(at, AccessCounter::none()) {
-            Ok(served) => Some(served),
-            Err(accesses) => {
-                self.accesses.end(accesses);
-                None
-            }
-        }
-    }
-
-    /// Does what `serve_at_once` does, in a step with this access counter. If nothing changes, it
-    /// returns the counter.
-    // Inlining saves 53 instructions of an unchecked pair.
-    #[inline(always)]
-    fn serve_first(
-        &mut self,
-        at: Moment,
-        mut accesses: AccessCounter,
-    ) -> Result<AtOnce<C>, AccessCounter> {
+        let mut accesses = AccessCounter::none();
         let now = self.latest.max(at.0);
         if checks_first(&self.config, &self.records, now, &mut accesses) {
-            return Err(accesses);
+            self.accesses.end(accesses);
+            return None;
         }
         if !self.gets.has_capacity() {
-            return Err(accesses);
-        }
-        // While no handle is alive, nothing is idle.
-        if self.records.idle_connections() == 0 {
-            return Err(accesses);
+            self.accesses.end(accesses);
+            return None;
         }
         let strategy = self.config.queue_strategy;
-        match self.records.take(strategy, Holder::Guard, &mut accesses) {
-            None => Err(accesses),
-            Some((key, conn)) => {
-                self.accesses.end(accesses);
-                self.latest = self.latest.max(at.0);
-                let get = self.gets.begin_and_end();
-                self.counters.started += 1;
-                let wanted = want_with_handle(&self.config, &self.records);
-                let grant = self.records.grant(wanted, false);
-                self.counters.serve(None, now);
-                Ok(AtOnce {
-                    get,
-                    key,
-                    conn,
-                    grant,
-                })
-            }
-        }
+        let Some((key, conn)) = self.records.take(strategy, Holder::Guard, &mut accesses) else {
+            self.accesses.end(accesses);
+            return None;
+        };
+        self.accesses.end(accesses);
+        self.latest = self.latest.max(at.0);
+        let get = self.gets.begin_and_end();
+        self.counters.started += 1;
+        // While no handle is alive, nothing is idle.
+        let wanted = want_with_handle(&self.config, &self.records);
+        let grant = self.records.grant(wanted, false);
+        self.counters.serve(None, now);
+        Some(AtOnce {
+            get,
+            key,
+            conn,
+            grant,
+        })
     }
 
     /// Begins a get and lets it try, as `begin` and `try_get` would, in one step. A get that is
@@ -204,7 +186,7 @@ impl<C, A> PoolInternals<C, A> {
             .take(strategy, holder(checked, next), &mut accesses)
         {
             None => {
-                let get = self.gets.bear_waiting(now, &mut accesses);
+                let get = self.gets.bear_waiting(now);
                 self.accesses.end(accesses);
                 let alive = self.gets.alive();
                 let due = due_waiting(&self.config, self.handles, &self.records, alive);
@@ -215,7 +197,7 @@ impl<C, A> PoolInternals<C, A> {
                 let wanted = want_with_handle(&self.config, &self.records);
                 let grant = self.records.grant(wanted, false);
                 if checked {
-                    let get = self.gets.bear_holding(key.number, &mut accesses);
+                    let get = self.gets.bear_holding(key.number);
                     self.accesses.end(accesses);
                     return Started::Tried(get, TryAnswer::Taken(key, conn, grant));
                 }

@@ -31,7 +31,7 @@ pub struct Counters {
     pub idle_timeout: u64,
     /// Connections that were closed as they had been retired.
     pub retired: u64,
-    /// Connections that were detached.
+    /// Connections that were detached or evicted.
     pub detached: u64,
 }
 
@@ -105,7 +105,7 @@ impl Counters {
         self.retired += closed as u64;
     }
 
-    /// Counts a detached connection.
+    /// Counts a detached or evicted connection.
     pub fn detach(&mut self) {
         self.detached += 1;
     }

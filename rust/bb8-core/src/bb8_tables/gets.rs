@@ -136,16 +136,15 @@ impl Gets {
 
     /// Adds a get with the next number that holds this connection at once. Memory must be reserved.
     #[inline]
-    pub fn bear_holding(&mut self, held: u64, accesses: &mut AccessCounter) -> GetKey {
+    pub fn bear_holding(&mut self, held: u64) -> GetKey {
         let number = self.next;
         let place = self.slots.insert(Slot {
             number,
             standing: Getting {
-                place: GetPlace::Active,
+                place: GetPlace::Holding(held),
                 first_wait: None,
             },
         });
-        let _ = self.slots.turn(place, GetPlace::Holding(held), accesses);
         self.next += 1;
         self.alive += 1;
         GetKey { number, place }
@@ -154,16 +153,15 @@ impl Gets {
     /// Adds a get with the next number that waits at once, since `now`. Memory must be reserved.
     // Inlining saves 8 instructions of a pair.
     #[inline(always)]
-    pub fn bear_waiting(&mut self, now: u64, accesses: &mut AccessCounter) -> GetKey {
+    pub fn bear_waiting(&mut self, now: u64) -> GetKey {
         let number = self.next;
         let place = self.slots.insert(Slot {
             number,
             standing: Getting {
-                place: GetPlace::Active,
-                first_wait: None,
+                place: GetPlace::Waiting(false),
+                first_wait: Some(now),
             },
         });
-        self.slots.wait(place, now, accesses);
         self.slots.line_up(place);
         self.next += 1;
         self.alive += 1;

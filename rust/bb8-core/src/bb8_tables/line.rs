@@ -25,18 +25,6 @@ pub struct Line {
     len: usize,
 }
 
-/// Sets the index that follows `at`.
-#[inline]
-fn set_after(links: &mut [Link], at: u32, to: u32) {
-    links[at as usize].after = to;
-}
-
-/// Sets the index that precedes `at`.
-#[inline]
-fn set_before(links: &mut [Link], at: u32, to: u32) {
-    links[at as usize].before = to;
-}
-
 impl Links {
     /// Returns the indexes before and after `at`.
     #[inline]
@@ -60,8 +48,8 @@ impl Links {
     #[inline]
     fn join(&mut self, left: u32, right: u32) {
         let entries = self.entries.as_mut_slice();
-        set_after(entries, left, right);
-        set_before(entries, right, left);
+        entries[left as usize].after = right;
+        entries[right as usize].before = left;
     }
 }
 

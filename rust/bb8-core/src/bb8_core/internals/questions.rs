@@ -14,7 +14,7 @@ impl<C, A> PoolInternals<C, A> {
         let _ = &self.config;
     }
 
-    /// Returns how many table entries the latest step read or changed.
+    /// Returns how often the latest step read or changed a table entry.
     pub fn examined(&self) -> u64 {
         self.accesses.reads()
     }

@@ -1,15 +1,15 @@
 use Rattle.std.proofs.Common.{ap, ◌∙◌}
 use Rattle.bb8_tables.specs.Machine as machine
-use Rattle.bb8_tables.proofs.GetPlaces.{begin_good, begin_view}
+use Rattle.bb8_tables.proofs.GetPlaces.{born_good, born_view}
 use Rattle.bb8_tables.proofs.gets.Gets.bear.Goals as goal
 
 pub invariant_of-self : goal.invariant_of-self
 invariant_of-self c =
     let i = c.insert-place in
-    begin_good c.self.inside i.result i.new.self c.self.invariant i.ensures.vacant i.ensures.within i.ensures.state i.ensures.room (rw (← c.self.view_is) at c.requires.room)
+    born_good c.self.inside i.result _ i.new.self c.self.invariant i.ensures.vacant i.ensures.within i.ensures.state i.ensures.room (rw (← c.self.view_is) at c.requires.room)
 
 pub returns-clause-state : goal.returns-clause-state
 returns-clause-state c =
     let i = c.insert-place in
-    begin_view c.self.inside i.result i.new.self c.self.invariant i.ensures.vacant i.ensures.within i.ensures.state i.ensures.room (rw (← c.self.view_is) at c.requires.room)
+    born_view c.self.inside i.result _ i.new.self c.self.invariant i.ensures.vacant i.ensures.within i.ensures.state i.ensures.room (rw (← c.self.view_is) at c.requires.room)
     ∙ ap machine.after_begin c.self.view_is
