@@ -19,8 +19,8 @@ const TASKS: u64 = 32;
 const CONNECTIONS: u32 = 5;
 /// How long a get may take.
 const PATIENCE: Duration = Duration::from_millis(500);
-/// How late the machine may run a task whose time has come.
-const SLACK: Duration = Duration::from_secs(3);
+/// How much later a get may end.
+const SLACK: Duration = Duration::from_millis(400);
 
 /// The counts of the tasks, and those of the server.
 #[derive(Default)]
@@ -32,26 +32,32 @@ struct Seen {
     cut_off: AtomicU64,
     failed: AtomicU64,
     wrong: AtomicU64,
+    late: AtomicU64,
     longest: AtomicU64,
     clients: AtomicU64,
     ended: AtomicU64,
     done: AtomicBool,
 }
 
-/// Gets a connection and has a word echoed, which nobody else asks for.
+/// Gets a connection and has a word echoed, which nobody else asks for. The get is late if a timer
+/// has elapsed that is polled after it: not if the machine paused.
 async fn echo(pool: &Pool<Server>, word: &str, seen: &Seen) {
     seen.started.fetch_add(1, SeqCst);
     let begin = Instant::now();
-    let got = pool.get().await;
+    let got = timeout(PATIENCE + SLACK, pool.get()).await;
     let took = begin.elapsed().as_millis() as u64;
     seen.longest.fetch_max(took, SeqCst);
     let mut conn = match got {
-        Ok(conn) => conn,
-        Err(RunError::TimedOut) => {
+        Ok(Ok(conn)) => conn,
+        Ok(Err(RunError::TimedOut)) => {
             seen.timed_out.fetch_add(1, SeqCst);
             return;
         }
-        Err(error) => panic!("get failed: {error}"),
+        Ok(Err(error)) => panic!("get failed: {error}"),
+        Err(_) => {
+            seen.late.fetch_add(1, SeqCst);
+            return;
+        }
     };
     seen.served.fetch_add(1, SeqCst);
     match conn.ask(&["ECHO", word]).await {
@@ -181,10 +187,7 @@ fn judge(seen: &Seen, figures: &Statistics, is_balanced: bool) -> ExitCode {
             "connections were within max_size",
             read(&seen.clients) <= u64::from(CONNECTIONS),
         ),
-        (
-            "each get was answered in time",
-            u128::from(read(&seen.longest)) < (PATIENCE + SLACK).as_millis(),
-        ),
+        ("each get was answered in time", read(&seen.late) == 0),
         (
             "gets were started as the pool says",
             read(&seen.started) == figures.get_started,

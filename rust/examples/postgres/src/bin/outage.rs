@@ -17,7 +17,7 @@ use std::sync::{Arc, Mutex};
 use std::time::{Duration, Instant};
 use tokio::io::copy_bidirectional;
 use tokio::net::{TcpListener, TcpStream};
-use tokio::time::sleep;
+use tokio::time::{sleep, timeout};
 use tokio_postgres::{Client, Config, Error};
 
 type Failure = Box<dyn std::error::Error + Send + Sync>;
@@ -25,8 +25,8 @@ type Failure = Box<dyn std::error::Error + Send + Sync>;
 const CONNECTIONS: u32 = 8;
 const TASKS: u32 = 32;
 /// How long a get may take.
-const PATIENCE: Duration = Duration::from_millis(1500);
-/// How late the machine may run a task whose time has come.
+const PATIENCE: Duration = Duration::from_secs(3);
+/// How much later a get may end.
 const SLACK: Duration = Duration::from_millis(500);
 
 /// Keeps the errors that no caller sees.
@@ -44,12 +44,13 @@ impl ErrorSink<Error> for Sink {
 }
 
 /// The results of a load of gets: how many were served and failed, how many of those that began
-/// later than `PATIENCE` failed, and the longest get.
+/// later than `PATIENCE` failed, how many ended late, and the longest get.
 #[derive(Debug, Default)]
 struct Met {
     served: u32,
     failed: u32,
     failed_late: u32,
+    late: u32,
     longest: Duration,
 }
 
@@ -80,16 +81,13 @@ impl Sink {
 }
 
 impl Met {
-    fn is_in_time(&self) -> bool {
-        self.longest < PATIENCE + SLACK
-    }
-
     fn is_well(&self) -> bool {
-        self.is_in_time() && self.failed == 0 && self.served > 100
+        self.late == 0 && self.failed == 0 && self.served > 100
     }
 }
 
-/// Has tasks get connections and query the server for this long.
+/// Has tasks get connections and query the server for this long. A get is late if a timer has
+/// elapsed that is polled after it: not if the machine paused.
 async fn load(pool: &Pool<Database>, long: Duration) -> Result<Met, Failure> {
     let begin = Instant::now();
     let met = Arc::new(Mutex::new(Met::default()));
@@ -98,16 +96,18 @@ async fn load(pool: &Pool<Database>, long: Duration) -> Result<Met, Failure> {
         tokio::spawn(async move {
             while begin.elapsed() < long {
                 let start = Instant::now();
-                let got = pool.get().await;
+                let got = timeout(PATIENCE + SLACK, pool.get()).await;
                 let took = start.elapsed();
+                let is_late = got.is_err();
                 let is_served = match got {
-                    Ok(conn) => conn.client.batch_execute("SELECT 1").await.is_ok(),
-                    Err(_) => false,
+                    Ok(Ok(conn)) => conn.client.batch_execute("SELECT 1").await.is_ok(),
+                    _ => false,
                 };
                 // A task that asks again without a pause may take the connection from a woken one.
                 sleep(Duration::from_millis(1)).await;
                 let mut met = met.lock().unwrap();
                 met.longest = met.longest.max(took);
+                met.late += u32::from(is_late);
                 met.served += u32::from(is_served);
                 met.failed += u32::from(!is_served);
                 met.failed_late += u32::from(!is_served && start - begin > PATIENCE + SLACK);
@@ -177,7 +177,7 @@ async fn kill(config: &Config, kill: &str, start: &str) -> Result<bool, Failure>
         && were_closed >= u64::from(CONNECTIONS)
         && sink.any("ConnectionRefused");
     let has_failed = during.served == 0 && during.failed > 0;
-    let is_well = during.is_in_time() && after.is_well();
+    let is_well = during.late == 0 && after.is_well();
     Ok(has_failed && is_well && has_cause && balances(&pool, &log).await == Some(true))
 }
 
@@ -201,7 +201,7 @@ async fn shut_out(
     mend.await?;
     let after = load(&pool, PATIENCE).await?;
     println!("shut out: {attempts} attempts failed, during {during:?}, after {after:?}");
-    let is_well = during.is_in_time() && after.is_well();
+    let is_well = during.late == 0 && after.is_well();
     let is_balanced = balances(&pool, &log).await == Some(true);
     Ok(has_failed && times_out && is_well && has_cause && is_balanced)
 }
@@ -265,9 +265,8 @@ async fn main() -> Result<ExitCode, Failure> {
     for (limit, fails) in [(None, true), (Some(Duration::from_millis(200)), false)] {
         let (met, counts, is_balanced) = freeze(&admin, &config, limit).await?;
         println!("frozen, test_timeout {limit:?}: {met:?}");
-        let in_time = met.longest < PATIENCE + SLACK;
         let fails_alike = (met.failed > 0) == fails && met.failed_late == 0;
-        checks.push(("each get ended in time", in_time));
+        checks.push(("each get ended in time", met.late == 0));
         checks.push(("gets failed until their first timeout at most", fails_alike));
         checks.push(("gets were served", met.served > 100));
         checks.push(("connections are accounted for", is_balanced));

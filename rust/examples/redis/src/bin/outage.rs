@@ -22,10 +22,10 @@ const PASSWORD: &str = "secret";
 const CONNECTIONS: u32 = 5;
 const TASKS: u32 = 32;
 /// How long a get may take, and a request.
-const PATIENCE: Duration = Duration::from_millis(1500);
+const PATIENCE: Duration = Duration::from_secs(3);
 /// How long a connection attempt may take, and in some cases a check.
 const BRIEFLY: Duration = Duration::from_millis(200);
-/// How late the machine may run a task whose time has come.
+/// How much later a get may end.
 const SLACK: Duration = Duration::from_millis(500);
 
 #[derive(Clone, Copy, Debug)]
@@ -123,10 +123,12 @@ impl Sink {
 struct Met {
     served: u32,
     failed: u32,
+    late: u32,
     longest: Duration,
 }
 
-/// Runs tasks that get connections and query the server, for this long.
+/// Runs tasks that get connections and query the server, for this long. A get is late if a timer
+/// has elapsed that is polled after it: not if the machine paused.
 async fn load(pool: &Pool<Server>, long: Duration) -> Result<Met, Failure> {
     let begin = Instant::now();
     let met = Arc::new(Mutex::new(Met::default()));
@@ -135,19 +137,21 @@ async fn load(pool: &Pool<Server>, long: Duration) -> Result<Met, Failure> {
         tokio::spawn(async move {
             while begin.elapsed() < long {
                 let start = Instant::now();
-                let got = pool.get().await;
+                let got = timeout(PATIENCE + SLACK, pool.get()).await;
                 let took = start.elapsed();
+                let is_late = got.is_err();
                 let is_served = match got {
-                    Ok(mut conn) => {
+                    Ok(Ok(mut conn)) => {
                         let asked = timeout(PATIENCE, conn.ask(&["ECHO", "word"])).await;
                         matches!(asked, Ok(Ok(Ok(word))) if word == "word")
                     }
-                    Err(_) => false,
+                    _ => false,
                 };
                 // A task that asks again without a pause may take the connection from a woken one.
                 sleep(Duration::from_millis(1)).await;
                 let mut met = met.lock().unwrap();
                 met.longest = met.longest.max(took);
+                met.late += u32::from(is_late);
                 met.served += u32::from(is_served);
                 met.failed += u32::from(!is_served);
             }
@@ -205,10 +209,7 @@ async fn meet(machine: &Machine, outage: Outage, limit: Option<Duration>) -> Res
     println!("{outage:?}, test_timeout {limit:?}: during {during:?}, after {after:?}");
     let pending = pool.state().statistics.pending_gets();
     let checks = [
-        (
-            "each get ended in time",
-            during.longest.max(after.longest) < PATIENCE + SLACK,
-        ),
+        ("each get ended in time", during.late + after.late == 0),
         ("gets failed during the outage", during.failed > 0),
         (
             "after it none failed",
