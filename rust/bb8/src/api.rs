@@ -30,7 +30,8 @@ impl<M: ManageConnection> Pool<M> {
     ///
     /// # Errors
     ///
-    /// The error of the manager or the customizer. The attempt is not retried.
+    /// The error of the manager or the customizer. The attempt is not retried, and has no time
+    /// limit.
     ///
     /// # Examples
     ///
@@ -52,8 +53,8 @@ impl<M: ManageConnection> Pool<M> {
     ///
     /// # Errors
     ///
-    /// Each error returns the connection: it is broken, the pool is full or closed, or there is no
-    /// memory or no number for it.
+    /// Each error returns the connection. It is broken, the pool is full or closed, or memory or
+    /// numbers have run out.
     ///
     /// # Examples
     ///
@@ -113,10 +114,10 @@ impl<M: ManageConnection> Pool<M> {
     ///
     /// When it is first polled, waiting gets return [`RunError::Closed`](crate::RunError::Closed)
     /// and count in `get_cancelled`. Every later get returns it, too. Exception: a get that is
-    /// checking a connection at that moment may still return it. Idle connections are dropped, and
-    /// attempts in progress end as soon as their runtime polls them. Checked-out connections are
-    /// dropped when they are returned. It waits for them, so call it without a guard in the same
-    /// task, or limit it by a timeout. If it is dropped, the pool stays closed.
+    /// checking a connection then may still return that connection. Idle connections are dropped,
+    /// and attempts in progress end when next polled. Checked-out connections are dropped when they
+    /// are returned. `close` waits for them, so call it without a guard in the same task, or limit
+    /// it by a timeout. If its future is dropped, the pool stays closed.
     ///
     /// # Panics
     ///

@@ -362,7 +362,7 @@ impl<M: ManageConnection> Builder<M> {
     /// Sets how often the pool closes connections that are too old, or idle for too long. The
     /// default is every 30 seconds; a rate above 30 years counts as 30 years. A pool without these
     /// limits has no reaper. The reaper ends with the runtime in which the pool was built. If the
-    /// rate is zero and an age is limited, building the pool panics.
+    /// rate is zero, building a pool with a reaper panics.
     pub fn reaper_rate(mut self, reaper_rate: Duration) -> Self {
         self.config.reaper_rate = reaper_rate;
         self
@@ -384,10 +384,11 @@ impl<M: ManageConnection> Builder<M> {
     /// no other get can take it.
     ///
     /// At zero, gets are served in the order of the queue. Exception: if a connection is closed
-    /// instead of returned, the get for which another one is opened goes to the back. But a
-    /// returned connection is unused until the woken task runs. If connections are held for
-    /// microseconds, that costs a third to more than half of the throughput. A millisecond costs
-    /// none, unless tasks compute for milliseconds without an await: then it costs up to a fifth.
+    /// instead of returned, the get that requests its replacement goes to the back. A returned
+    /// connection is unused until the woken task runs. If connections are held for microseconds,
+    /// that costs a third to more than half of the throughput. A millisecond costs up to an eighth
+    /// if they are held for one yield, and up to a fifth if tasks compute for milliseconds without
+    /// an await; otherwise next to nothing.
     ///
     /// A future that was handed a connection has to be polled or dropped. If it is kept without
     /// being polled, it keeps the connection, even from the task that owns it:
@@ -460,7 +461,7 @@ impl<M: ManageConnection> Builder<M> {
     }
 
     /// Sets the name of the pool in its `Debug` output, and in its events if the cargo feature
-    /// `tracing` is on. By default it has none.
+    /// `tracing` is on. By default it has none, and events call it `bb8`.
     ///
     /// # Examples
     ///
@@ -474,9 +475,9 @@ impl<M: ManageConnection> Builder<M> {
         self
     }
 
-    /// Sets how long a `get` that waits or checks may take. If it is served later than that, it is
-    /// reported by `tracing`, with the pool's state; if it times out or is cancelled, it is not.
-    /// The default is two seconds. Without the cargo feature `tracing` it does nothing.
+    /// Sets the time above which a `get` that waited or checked is reported by `tracing`, with the
+    /// pool's state, once it is served. Timed-out and cancelled gets are not reported. The default
+    /// is two seconds. Without the cargo feature `tracing` it does nothing.
     ///
     /// # Examples
     ///
@@ -511,12 +512,13 @@ impl<M: ManageConnection> Builder<M> {
     ///
     /// # Errors
     ///
-    /// The last error of the first connection that could not be opened. Then there is no pool.
+    /// The last error of the first connection attempt that failed. No pool is built then.
     ///
     /// # Panics
     ///
-    /// If `min_idle` is above `max_size`; if an age is limited and `reaper_rate` is zero; and if an
-    /// age is limited and this is called outside of a tokio runtime.
+    /// If `min_idle` is above `max_size`. With a `max_lifetime` or an `idle_timeout` (by default
+    /// there are both), also if `reaper_rate` is zero, or if this is called outside of a tokio
+    /// runtime or in one without timers.
     pub async fn build(self, manager: M) -> Result<Pool<M>, M::Error> {
         let pool = self.make(manager);
         pool.shared().start().await?;

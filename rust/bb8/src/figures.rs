@@ -58,16 +58,16 @@ pub struct Statistics {
     pub get_waited: u64,
     /// `get` calls that timed out.
     pub get_timed_out: u64,
-    /// `get` calls whose future was dropped before it resolved, and those that returned `Closed`
-    /// after they had begun. A [`Pool::try_get`](crate::Pool::try_get) counts here if all that it
-    /// checked failed. A `timeout(d, pool.get())` counts here, a
+    /// `get` calls whose future was dropped before it resolved, and those that returned `Closed` or
+    /// `Memory` after they had begun. A [`Pool::try_get`](crate::Pool::try_get) counts here if all
+    /// that it checked failed. A `timeout(d, pool.get())` counts here, a
     /// [`Pool::get_timeout`](crate::Pool::get_timeout) as timed out.
     #[doc(alias = "cancellation")]
     pub get_cancelled: u64,
-    /// How long the served and timed-out gets had waited, each from its first wait to its end, in
-    /// whole microseconds.
+    /// Total wait of served and timed-out gets, each from its first wait to its end, in whole
+    /// microseconds.
     pub get_wait_time: Duration,
-    /// Connections that the pool opened, without those that were retired before they were open.
+    /// Connections that the pool opened, except those retired during their attempt.
     pub connections_created: u64,
     /// Connections that [`Pool::add`](crate::Pool::add) added.
     pub connections_added: u64,
@@ -93,7 +93,7 @@ pub struct Statistics {
     /// Connections that left the pool by
     /// [`PooledConnection::detach`](crate::PooledConnection::detach).
     pub connections_detached: u64,
-    /// Checks that took longer than `test_timeout`, or than their get had time.
+    /// Checks that were cut off by `test_timeout`, or by the end of their get's time.
     pub checks_timed_out: u64,
 }
 

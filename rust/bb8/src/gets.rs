@@ -13,13 +13,13 @@ impl<M: ManageConnection> Pool<M> {
     ///
     /// Waiting gets are woken in the order of a queue. By default, a get that asks before a woken
     /// one is polled takes the connection: [`Builder::fair_after`](crate::Builder::fair_after)
-    /// prevents starvation. A get is cancelled by dropping its future. A connection handed off to
-    /// it goes to the next one.
+    /// prevents starvation. Dropping the future cancels the get. A connection handed off to it goes
+    /// to the next waiter.
     ///
     /// # Errors
     ///
     /// `TimedOut` if no connection became available within `connection_timeout`; `Closed` if the
-    /// pool is closed; `Memory` and `Exhausted` if the get could not begin. Errors of the manager
+    /// pool is closed; `Memory` and `Exhausted` if memory or numbers ran out. Errors of the manager
     /// go to the error sink.
     ///
     /// # Panics

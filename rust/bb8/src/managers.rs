@@ -20,16 +20,16 @@ pub trait ManageConnection: Sized + Send + Sync + 'static {
     /// [`Builder::test_timeout`](crate::Builder::test_timeout) limits its time.
     ///
     /// After an error the connection is closed, and the get tries another one. If the check is cut
-    /// off, because its get times out or is cancelled, the connection is closed, too, as nobody
-    /// knows what the server will send next.
+    /// off, because its time is over or its get is cancelled, the connection is closed, too, as
+    /// nobody knows what the server will send next.
     fn is_valid(
         &self,
         conn: &mut Self::Connection,
     ) -> impl Future<Output = Result<(), Self::Error>> + Send;
 
     /// Returns whether a connection is known to be broken, without blocking. The pool calls it for
-    /// each connection that is returned or added. It closes a returned connection that is broken or
-    /// for which this panics, and does not add a broken one.
+    /// each connection that is returned, is added or failed its check. It closes a returned
+    /// connection that is broken or for which this panics, and does not add a broken one.
     fn has_broken(&self, conn: &mut Self::Connection) -> bool;
 }
 
@@ -85,8 +85,8 @@ pub trait CustomizeConnection<C: Send + 'static, E: 'static>:
     }
 }
 
-/// Receives errors that no caller sees: those of failed checks, and of connection attempts by the
-/// pool itself.
+/// Receives errors that no caller gets: those of failed checks and of the pool's connection
+/// attempts.
 pub trait ErrorSink<E>: fmt::Debug + Send + Sync + 'static {
     /// Receives an error.
     fn sink(&self, error: E);

@@ -168,7 +168,7 @@ fn builder(world: &Arc<World>, size: u32) -> bb8::Builder<Manager> {
     Pool::builder()
         .max_size(size)
         .test_on_check_out(false)
-        .connection_timeout(Duration::from_secs(1))
+        .connection_timeout(Duration::from_secs(5))
         .error_sink(Box::new(Sink(world.clone())))
 }
 
@@ -262,7 +262,7 @@ fn an_old_waker_that_owns_a_guard_may_be_dropped() {
     });
 }
 
-#[tokio::test]
+#[tokio::test(start_paused = true)]
 async fn no_waker_of_a_get_that_ended_is_kept() {
     let world = Arc::default();
     let pool = pool(&world, 1).await;
@@ -358,7 +358,8 @@ async fn a_panicking_manager_frees_its_slot() {
     let sinking = [Fault::ConnectFails, Fault::SinkPanics];
     for faults in [&attempt[..], &sinking[..]] {
         let world = Arc::default();
-        let pool = pool(&world, 1).await;
+        let builder = builder(&world, 1).connection_timeout(Duration::from_secs(1));
+        let pool = builder.build(Manager(world.clone())).await.unwrap();
         world.set(faults);
         assert!(!serves(&pool).await, "{faults:?}");
         // It is not asked again for the same connection. For the get, which waits for a second, it

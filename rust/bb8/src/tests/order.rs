@@ -124,7 +124,7 @@ fn assert_calm(pool: &Pool<Numbered>) {
     pool.shared().lock().core.judge();
 }
 
-#[tokio::test]
+#[tokio::test(start_paused = true)]
 async fn a_new_get_overtakes_a_woken_one() {
     let pool = pool(false, None).await;
     let conn = pool.get().await.unwrap();
@@ -137,7 +137,7 @@ async fn a_new_get_overtakes_a_woken_one() {
     assert_calm(&pool);
 }
 
-#[tokio::test]
+#[tokio::test(start_paused = true)]
 async fn gets_are_served_in_their_order() {
     for check in [false, true] {
         let pool = pool(check, Some(Duration::ZERO)).await;
@@ -161,7 +161,7 @@ async fn gets_are_served_in_their_order() {
     }
 }
 
-#[tokio::test]
+#[tokio::test(start_paused = true)]
 async fn a_dropped_get_passes_its_connection_on() {
     for check in [false, true] {
         let pool = pool(check, Some(Duration::ZERO)).await;
