@@ -114,10 +114,11 @@ impl<M: ManageConnection> Pool<M> {
     ///
     /// When it is first polled, waiting gets return [`RunError::Closed`](crate::RunError::Closed)
     /// and count in `get_cancelled`. Every later get returns it, too. Exception: a get that is
-    /// checking a connection then may still return that connection. Idle connections are dropped,
-    /// and attempts in progress end when next polled. Checked-out connections are dropped when they
-    /// are returned. `close` waits for them, so call it without a guard in the same task, or limit
-    /// it by a timeout. If its future is dropped, the pool stays closed.
+    /// checking a connection then, or was handed one by `fair_after`, may still return it. Idle
+    /// connections are dropped, and attempts in progress end when next polled. Checked-out
+    /// connections are dropped when they are returned. `close` waits for them, so call it without a
+    /// guard in the same task, or limit it by a timeout. If its future is dropped, the pool stays
+    /// closed.
     ///
     /// # Panics
     ///

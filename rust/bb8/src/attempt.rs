@@ -4,13 +4,13 @@ use crate::boxed::Reserved;
 use crate::core::{fit, Key, Moment, OpenedAnswer};
 use crate::events::report;
 use crate::managers::ManageConnection;
-use crate::pool::{Locked, Shared};
+use crate::pool::{Locked, Shared, LONGEST};
 use crate::returning::After;
 use futures_util::future::{select, Either};
+use std::future::{poll_fn, Future};
 use std::pin::pin;
 use std::sync::Arc;
 use std::task::Waker;
-use std::thread;
 use std::time::Duration;
 use tokio::runtime::Handle;
 use tokio::time::{sleep, timeout, Instant};
@@ -28,8 +28,18 @@ pub(crate) struct Attempt<M: ManageConnection> {
     claimed: Option<Claimed<M::Connection>>,
     /// The pause before the next try.
     wait: Duration,
-    /// Whether it has been polled. Then a panic may be the manager's.
-    has_begun: bool,
+    calls: Calls,
+}
+
+/// The user's code that an attempt is calling. If the attempt is dropped meanwhile, that code
+/// panicked.
+#[derive(Clone, Copy, PartialEq)]
+enum Calls {
+    Nothing,
+    /// The manager or the customizer.
+    Connect,
+    /// The error sink, or a subscriber of events.
+    Report,
 }
 
 /// Half of the first back-off.
@@ -41,7 +51,7 @@ impl<M: ManageConnection> Attempt<M> {
             shared: shared.clone(),
             claimed: Some(claimed),
             wait: Duration::ZERO,
-            has_begun: false,
+            calls: Calls::Nothing,
         }
     }
 
@@ -66,23 +76,22 @@ impl<M: ManageConnection> Attempt<M> {
     /// Opens the connection. After an error it tries again as long as there is time, and then as
     /// long as a get waits. Each try may take as long as the limit. Returns the last error, or
     /// `None` if the last try took too long.
-    pub(crate) async fn run(mut self, limit: Duration) -> Result<(), Option<M::Error>> {
+    pub(crate) async fn run(mut self, limit: Option<Duration>) -> Result<(), Option<M::Error>> {
         let config = &self.shared.clone().settings.config;
         let start = Instant::now();
-        self.has_begun = true;
         loop {
             if self.wait > Duration::ZERO {
                 sleep(self.wait).await;
             }
-            let error = match timeout(limit, self.shared.connect()).await {
-                Ok(Ok(conn)) => {
+            let error = match self.connect(limit).await {
+                Ok(conn) => {
                     self.enter(conn);
                     return Ok(());
                 }
-                Ok(Err(error)) => Some(error),
-                Err(_) => None,
+                Err(error) => error,
             };
             self.shared.lock().counts.failed += 1;
+            self.calls = Calls::Report;
             self.shared.failed("connection attempt", error.as_ref());
             let has_time = start.elapsed() <= config.connection_timeout;
             let retries = config.retry_connection && has_time && !self.shared.is_closed();
@@ -90,7 +99,29 @@ impl<M: ManageConnection> Attempt<M> {
                 return Err(error);
             }
             self.shared.forward(error);
+            self.calls = Calls::Nothing;
             self.back_off();
+        }
+    }
+
+    /// Makes one try. The error is `None` if it took too long. Without a limit it needs no timer.
+    async fn connect(
+        &mut self,
+        limit: Option<Duration>,
+    ) -> Result<M::Connection, Option<M::Error>> {
+        let shared = self.shared.clone();
+        let mut connecting = pin!(shared.connect());
+        let connected = poll_fn(|cx| {
+            self.calls = Calls::Connect;
+            let connected = connecting.as_mut().poll(cx);
+            self.calls = Calls::Nothing;
+            connected.map_err(Some)
+        });
+        match limit {
+            Some(limit) => timeout(limit.min(LONGEST), connected)
+                .await
+                .unwrap_or(Err(None)),
+            None => connected.await,
         }
     }
 
@@ -98,7 +129,7 @@ impl<M: ManageConnection> Attempt<M> {
     pub(crate) async fn run_alone(self) {
         let shared = self.shared.clone();
         let config = &shared.settings.config;
-        let limit = config.connect_timeout.unwrap_or(config.connection_timeout);
+        let limit = config.connect_timeout.or(Some(config.connection_timeout));
         let closed = pin!(shared.reached(|locked| locked.is_closed()));
         let run = pin!(self.run(limit));
         if let Either::Right((Err(error), _)) = select(closed, run).await {
@@ -110,7 +141,7 @@ impl<M: ManageConnection> Attempt<M> {
     fn back_off(&mut self) {
         let longest = self.shared.settings.config.connection_timeout / 2;
         let longer = self.wait.max(SHORTEST).saturating_mul(2);
-        self.wait = longer.min(longest).max(Duration::from_millis(1));
+        self.wait = longer.min(longest).clamp(Duration::from_millis(1), LONGEST);
     }
 
     /// Frees the approval, and asks for another one if a get waits. Returns whether this task goes
@@ -152,11 +183,12 @@ impl<M: ManageConnection> Attempt<M> {
     /// Enters the connection into the pool. If it was retired before it was opened, or no handle is
     /// left, the pool closes it and opens others for waiting gets and for `min_idle`.
     fn enter(&mut self, conn: M::Connection) {
+        self.calls = Calls::Report;
+        report!(debug, self.shared, "connection opened");
         let Some(Claimed { approval, reserved }) = self.claimed.take() else {
             return;
         };
         let mut conn = reserved.fill(conn);
-        report!(debug, self.shared, "connection opened");
         let at = self.shared.now();
         let end = self.shared.set_end(&mut conn, at);
         let mut locked = self.shared.lock();
@@ -179,18 +211,16 @@ impl<M: ManageConnection> Attempt<M> {
 
 impl<M: ManageConnection> Drop for Attempt<M> {
     fn drop(&mut self) {
-        if self.claimed.is_none() {
-            return;
+        if self.calls == Calls::Nothing {
+            return self.claimed.take().map_or((), |it| self.shared.hand_on(it));
         }
-        if self.has_begun && thread::panicking() {
+        if self.calls == Calls::Connect {
             self.shared.lock().counts.failed += 1;
-            // A manager that panics is not called again for the same approval.
-            if self.goes_on() {
-                self.back_off();
-                self.respawn();
-            }
-        } else if let Some(claimed) = self.claimed.take() {
-            self.shared.hand_on(claimed);
+        }
+        // Code that panics is not called again for the same approval.
+        if self.goes_on() {
+            self.back_off();
+            self.respawn();
         }
     }
 }

@@ -254,8 +254,9 @@ impl<M: ManageConnection> Builder<M> {
         self
     }
 
-    /// Sets how long a get may take, and for how long a failed connection attempt is retried. The
-    /// default is 30 seconds. Panics if it is zero.
+    /// Sets how long a get may take, for how long a failed connection attempt is retried, and,
+    /// without a `connect_timeout`, how long one attempt may take: if connecting takes longer, no
+    /// connection is ever opened. The default is 30 seconds. Panics if it is zero.
     pub fn connection_timeout(mut self, connection_timeout: Duration) -> Self {
         let is_zero = connection_timeout == Duration::ZERO;
         assert!(!is_zero, "connection_timeout must be non-zero");
@@ -268,8 +269,8 @@ impl<M: ManageConnection> Builder<M> {
     /// retried if [`Builder::retry_connection`] is set. So a server that accepts connections and
     /// never replies does not hold the slots of the pool. Panics if it is zero.
     ///
-    /// Exception: [`Builder::build`] waits for its first connections without this limit, as it has
-    /// no error for it.
+    /// Exceptions: [`Builder::build`] waits for its first connections without this limit, as it has
+    /// no error for it; and [`Pool::dedicated_connection`] has none.
     ///
     /// # Examples
     ///
@@ -532,7 +533,7 @@ impl<M: ManageConnection> Builder<M> {
     /// As [`build`](Self::build).
     pub fn build_unchecked(self, manager: M) -> Pool<M> {
         let pool = self.make(manager);
-        pool.shared().spawn_start();
+        pool.shared().fill();
         pool
     }
 }

@@ -75,7 +75,8 @@ impl<E: Error> From<E> for RunError<E> {
 pub enum AddError<C> {
     /// The manager's `has_broken` returned true.
     Broken(C),
-    /// There are `max_size` connections and connection attempts already, or the pool is closed.
+    /// There are `max_size` connections and connection attempts already, counting attempts that
+    /// wait for a runtime; or the pool is closed.
     NoCapacity(C),
     /// Memory for the connection was refused, or the pool has no number left for it.
     Withheld(C),

@@ -42,7 +42,7 @@ impl<M: ManageConnection> Shared<M> {
     }
 
     /// Reports a connection that is closed and not broken. If it is past `max_lifetime` or its
-    /// own end, that is the reason instead of `idle_timeout` or a retire.
+    /// own end, that is the reason instead of `idle_timeout`.
     pub(crate) fn closed(&self, conn: &Boxed<M::Connection>, reason: &str) {
         #[cfg(feature = "tracing")]
         {
@@ -50,7 +50,7 @@ impl<M: ManageConnection> Shared<M> {
             let limit = self.settings.config.max_lifetime;
             let is_old = self.is_past_end(conn) || limit.is_some_and(|it| age >= it);
             let reason = match reason {
-                IDLE_TIMEOUT | RETIRED if is_old => MAX_LIFETIME,
+                IDLE_TIMEOUT if is_old => MAX_LIFETIME,
                 reason => reason,
             };
             report!(debug, self, reason, ?age, "connection closed");

@@ -24,7 +24,8 @@ impl<M: ManageConnection> Pool<M> {
     ///
     /// # Panics
     ///
-    /// If it has to wait outside a tokio runtime, or in one without timers.
+    /// If it has to wait outside a tokio runtime, in one without timers, or after the runtime in
+    /// which it first waited has shut down.
     ///
     /// # Examples
     ///
@@ -124,9 +125,8 @@ impl<M: ManageConnection> Pool<M> {
     }
 
     /// Checks out an idle connection, or returns `None` if none is idle and valid. It never waits
-    /// for a connection, and requests none. So a pool that is only asked by `try_get` stays empty
-    /// if it has no `min_idle`, or after an outage longer than `connection_timeout` until its next
-    /// reap.
+    /// for a connection, and requests none but those missing to `min_idle`. So a pool that is only
+    /// asked by `try_get` stays empty if it has no `min_idle`.
     ///
     /// If connections are checked, it awaits the check. After one that fails it goes on with the
     /// next idle connection, as long as `connection_timeout` has not passed.
@@ -138,6 +138,10 @@ impl<M: ManageConnection> Pool<M> {
     /// # Errors
     ///
     /// `Closed`, `Memory` and `Exhausted`, as [`Pool::get`]; never `TimedOut`.
+    ///
+    /// # Panics
+    ///
+    /// If a check is not ready at once outside a tokio runtime, or in one without timers.
     ///
     /// # Examples
     ///

@@ -9,7 +9,7 @@ use crate::errors::RunError;
 use crate::events::MAX_LIFETIME;
 use crate::lock::MutexGuard;
 use crate::managers::ManageConnection;
-use crate::pool::{Locked, Shared};
+use crate::pool::{Locked, Shared, LONGEST};
 use crate::returning::{gave_up, Fate, Step};
 use crate::waiters::Handed;
 use std::future::{poll_fn, Future};
@@ -92,8 +92,9 @@ impl<M: ManageConnection> Pool<M> {
                     return Err(RunError::Closed)
                 }
                 Tried::NoneIdle => {
-                    // A step outside a runtime may have left connections to be opened.
-                    shared.settle(shared.lock(), 0, None);
+                    // A step outside a runtime may have left connections to be opened, and a pool
+                    // without a reaper may have fewer than `min_idle`.
+                    shared.fill();
                     return result(None);
                 }
                 Tried::Refused => return Err(RunError::Memory),
@@ -156,7 +157,7 @@ fn started(
     deadline: impl FnOnce() -> Option<Instant>,
 ) -> Option<Pin<&mut Sleep>> {
     if timer.is_none() {
-        timer.set(Some(sleep_until(deadline()?)));
+        timer.set(Some(sleep_until(deadline()?.min(Instant::now() + LONGEST))));
     }
     timer.as_pin_mut()
 }

@@ -270,7 +270,7 @@ impl<M: ManageConnection> Shared<M> {
     pub(crate) async fn start(self: &Arc<Self>) -> Result<(), M::Error> {
         let at = self.now();
         self.lock().core.fill(Moment(at), false);
-        let attempts = iter::from_fn(|| Attempt::claim(self)).map(|it| it.run(Duration::MAX));
+        let attempts = iter::from_fn(|| Attempt::claim(self)).map(|it| it.run(None));
         let mut attempts: FuturesUnordered<_> = attempts.collect();
         while let Some(opened) = attempts.next().await {
             if let Err(Some(error)) = opened {
@@ -280,8 +280,8 @@ impl<M: ManageConnection> Shared<M> {
         Ok(())
     }
 
-    /// Opens the first connections in the background.
-    pub(crate) fn spawn_start(self: &Arc<Self>) {
+    /// Opens connections in the background that are missing to `min_idle`.
+    pub(crate) fn fill(self: &Arc<Self>) {
         let at = self.now();
         self.lock().core.fill(Moment(at), false);
         self.open();
@@ -459,8 +459,8 @@ fn nanoseconds(span: Duration) -> u64 {
     seconds.saturating_add(u64::from(span.subsec_nanos()))
 }
 
-/// The longest time between two reaps, 30 years: a clock may not represent the end of a longer one.
-const LONGEST_RATE: Duration = Duration::from_secs(30 * 365 * 24 * 60 * 60);
+/// The longest time of a timer, 30 years: a clock may not represent the end of a longer one.
+pub(crate) const LONGEST: Duration = Duration::from_secs(30 * 365 * 24 * 60 * 60);
 
 /// The owner that all handles share: its drop closes the pool. If memory to list the idle
 /// connections is refused, they are dropped once the last connection attempt has ended.
@@ -473,7 +473,7 @@ impl<M: ManageConnection> Owner<M> {
     /// limited.
     pub(crate) fn new(settings: Builder<M>, manager: M) -> Arc<Self> {
         let has_limits = settings.config.has_limits();
-        let rate = settings.config.reaper_rate.min(LONGEST_RATE);
+        let rate = settings.config.reaper_rate.min(LONGEST);
         let shared = Arc::new(Shared::new(settings, manager));
         let owner = Arc::new(Owner { shared });
         if has_limits {

@@ -304,8 +304,10 @@ impl<M: ManageConnection> Shared<M> {
 
     /// Drops a connection that a step closed. Returns the panic of its destructor.
     fn drop_one(&self, conn: Boxed<M::Connection>, reason: &str) -> thread::Result<()> {
-        self.closed(&conn, reason);
-        let dropped = catch_unwind(AssertUnwindSafe(|| drop(conn)));
+        let dropped = catch_unwind(AssertUnwindSafe(|| {
+            self.closed(&conn, reason);
+            drop(conn);
+        }));
         self.lock().dropping -= 1;
         self.closing.notify_waiters();
         dropped

@@ -2,17 +2,18 @@
 
 use bb8::{CustomizeConnection, ManageConnection, Pool, PooledConnection};
 use std::fmt::{Debug, Write};
+use std::panic::{catch_unwind, AssertUnwindSafe};
 use std::sync::atomic::{AtomicU32, Ordering::SeqCst};
 use std::sync::{Arc, Mutex};
 use std::thread::spawn;
 use std::time::Duration;
 use tokio::runtime;
-use tokio::time::{advance, sleep};
+use tokio::time::{advance, sleep, timeout};
 use tracing::field::{Field, Visit};
 use tracing::span::{Attributes, Id, Record};
 use tracing::{Event, Metadata, Subscriber};
 
-/// Keeps all events, each as its level and its fields.
+/// Keeps all events, each as its level and its fields. Those of a pool called `panics` panic.
 #[derive(Clone, Default)]
 struct Log(Arc<Mutex<Vec<String>>>);
 
@@ -40,6 +41,7 @@ impl Subscriber for Log {
     fn event(&self, event: &Event<'_>) {
         let mut line = Line(event.metadata().level().to_string());
         event.record(&mut line);
+        assert!(!line.0.contains("pool=\"panics\""), "{}", line.0);
         self.0.lock().unwrap().push(line.0);
     }
 
@@ -228,6 +230,16 @@ async fn connections_that_are_retired_detached_or_of_a_closed_pool_are_reported_
     drop(held);
     assert_eq!(log.take(), [closed("retired"), closed("retired")]);
 
+    // As in the statistics, it does not count that the connection has reached its `max_lifetime`.
+    let held = pool.get().await.unwrap();
+    pool.retire();
+    log.take();
+    advance(Duration::from_secs(1800)).await;
+    drop(held);
+    let aged = closed("retired").replace("age=0ns", "age=1800s");
+    assert_eq!(log.take(), [aged]);
+    assert_eq!(pool.state().statistics.connections_closed_retired, 3);
+
     PooledConnection::detach(pool.get().await.unwrap());
     let lines = log.take();
     let line = r#"DEBUG message=connection detached pool="bb8" age=0ns"#;
@@ -264,4 +276,19 @@ async fn a_slow_get_is_reported_with_the_state_of_the_pool() {
             assert!(lines[0].contains("get_waited: 2"), "{lines:?}");
         }
     }
+}
+
+#[tokio::test(start_paused = true)]
+async fn a_subscriber_that_panics_leaks_no_slot() {
+    let _subscribed = tracing::subscriber::set_default(Log::default());
+    let second = Duration::from_secs(1);
+    let builder = Pool::builder().name("panics").connection_timeout(second);
+    let pool = builder.max_size(1).build_unchecked(Manager(Arc::default()));
+    assert!(pool.get().await.is_err());
+    sleep(second).await;
+    let state = pool.state();
+    assert_eq!((state.connections, state.pending_connections), (0, 0));
+    assert!(pool.add(()).is_ok());
+    assert!(catch_unwind(AssertUnwindSafe(|| pool.retire())).is_err());
+    assert!(timeout(second, pool.close()).await.is_ok());
 }

@@ -221,6 +221,17 @@ fn runtime() -> Runtime {
     Builder::new_current_thread().enable_time().build().unwrap()
 }
 
+fn timerless() -> Runtime {
+    Builder::new_current_thread().build().unwrap()
+}
+
+/// Lets the other tasks of a runtime run for a while.
+async fn sleepless() {
+    for _ in 0..99 {
+        yield_now().await;
+    }
+}
+
 /// Runs on a thread of its own, which has ten seconds for it.
 fn in_time(run: impl FnOnce() + Send + 'static) {
     let (done, ended) = channel();
@@ -365,6 +376,8 @@ async fn a_panicking_manager_frees_its_slot() {
         // It is not asked again for the same connection. For the get, which waits for a second, it
         // is asked for others after the pauses of 0.4 and 0.5 s.
         assert_eq!(world.asked.load(SeqCst), 3, "{faults:?}");
+        let failed = pool.state().statistics.connections_failed;
+        assert_eq!(failed, 3, "{faults:?}");
         world.mend();
         assert_eq!(counts(&pool, &world), (0, 0), "{faults:?}");
         assert!(serves(&pool).await, "{faults:?}");
@@ -570,6 +583,76 @@ fn the_next_get_takes_over_attempts_of_a_runtime_that_shut_down() {
     assert_eq!(world.opened.load(SeqCst), 0);
     assert!(lives.block_on(serves(&pool)));
     assert_eq!(world.opened.load(SeqCst), 1);
+}
+
+/// As in a test that fails while a pool lives on.
+#[test]
+fn a_runtime_that_ends_in_a_panic_leaves_its_attempts_to_another() {
+    let world: Arc<World> = Arc::default();
+    world.set(&[Fault::ConnectHangs]);
+    let (ends, lives) = (runtime(), runtime());
+    let builder = builder(&world, 1).min_idle(1);
+    let pool = ends.block_on(async {
+        let pool = builder.build_unchecked(Manager(world.clone()));
+        sleep(Duration::from_millis(1)).await;
+        pool
+    });
+    let unwinds = move || {
+        let _ends = ends;
+        panic!("elsewhere");
+    };
+    assert!(catch_unwind(AssertUnwindSafe(unwinds)).is_err());
+    world.mend();
+    assert_eq!(pool.state().statistics.connections_failed, 0);
+    assert!(lives.block_on(serves(&pool)));
+    assert_eq!(world.opened.load(SeqCst), 1);
+}
+
+#[test]
+fn an_attempt_in_a_runtime_without_timers_is_left_to_another() {
+    let world: Arc<World> = Arc::default();
+    let (lives, rests) = (runtime(), timerless());
+    let builder = builder(&world, 1).min_idle(1);
+    let pool = lives.block_on(builder.build(Manager(world.clone())));
+    let pool = pool.unwrap();
+    let conn = lives.block_on(pool.get_owned()).unwrap();
+    let waits = pool.clone();
+    let waiting = lives.spawn(async move { waits.get().await.is_ok() });
+    lives.block_on(sleepless());
+    world.set(&[Fault::IsBroken]);
+    rests.block_on(async {
+        drop(conn);
+        sleepless().await;
+    });
+    world.mend();
+    assert!(lives.block_on(waiting).unwrap());
+    let counts = pool.state().statistics;
+    assert_eq!((counts.connections_failed, counts.get_waited), (0, 1));
+}
+
+#[test]
+fn a_pool_without_limits_on_ages_is_built_without_timers() {
+    let world: Arc<World> = Arc::default();
+    let builder = builder(&world, 1).min_idle(1);
+    let ageless = builder.max_lifetime(None).idle_timeout(None);
+    let built = timerless().block_on(ageless.build(Manager(world.clone())));
+    assert_eq!(counts(&built.unwrap(), &world), (1, 1));
+}
+
+#[tokio::test(start_paused = true)]
+async fn try_get_refills_a_pool_without_a_reaper() {
+    let world: Arc<World> = Arc::default();
+    let builder = builder(&world, 1).min_idle(1).test_on_check_out(true);
+    let ageless = builder.max_lifetime(None).idle_timeout(None);
+    let pool = ageless.build(Manager(world.clone())).await.unwrap();
+    world.set(&[Fault::CheckFails, Fault::ConnectFails]);
+    assert!(pool.try_get().await.unwrap().is_none());
+    // The attempts to replace it are given up.
+    sleep(Duration::from_secs(60)).await;
+    world.mend();
+    assert!(pool.try_get().await.unwrap().is_none());
+    sleep(Duration::from_secs(1)).await;
+    assert!(pool.try_get().await.unwrap().is_some());
 }
 
 #[test]

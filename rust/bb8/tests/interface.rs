@@ -5,6 +5,7 @@ use bb8::{
     AddError, Builder, CustomizeConnection, ErrorSink, ManageConnection, Pool, PooledConnection,
     QueueStrategy, RunError, State, Statistics,
 };
+use futures_util::FutureExt;
 use std::fmt;
 use std::future::Future;
 use std::io;
@@ -283,10 +284,15 @@ async fn the_longest_lifetime_is_shortened() {
 /// Durations that no clock reaches are as no limit.
 #[tokio::test]
 async fn the_longest_spans_are_no_limit() {
-    let builder = Pool::builder().connection_timeout(Duration::MAX);
-    let limits = builder
-        .max_lifetime(Duration::MAX)
-        .idle_timeout(Duration::MAX);
-    let pool = limits.build(Numbers).await.unwrap();
-    assert_eq!(*pool.get().await.unwrap(), 1);
+    for longest in [Duration::MAX, Duration::from_millis(u64::MAX)] {
+        let builder = Pool::builder().max_size(1).max_lifetime(longest);
+        let limits = builder.idle_timeout(longest).connection_timeout(longest);
+        let limits = limits.connect_timeout(longest).test_timeout(longest);
+        let pool = limits.build_unchecked(Numbers);
+        let first = pool.get().await.unwrap();
+        let mut waiting = Box::pin(pool.get());
+        assert!((&mut waiting).now_or_never().is_none());
+        drop(first);
+        assert_eq!(*waiting.await.unwrap(), 1);
+    }
 }
