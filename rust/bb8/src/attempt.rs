@@ -4,7 +4,7 @@ use crate::boxed::Reserved;
 use crate::core::{fit, Key, Moment, OpenedAnswer};
 use crate::events::report;
 use crate::managers::ManageConnection;
-use crate::pool::{Locked, Shared, LONGEST};
+use crate::pool::{Locked, Shared};
 use crate::returning::After;
 use futures_util::future::{select, Either};
 use std::future::{poll_fn, Future};
@@ -118,9 +118,7 @@ impl<M: ManageConnection> Attempt<M> {
             connected.map_err(Some)
         });
         match limit {
-            Some(limit) => timeout(limit.min(LONGEST), connected)
-                .await
-                .unwrap_or(Err(None)),
+            Some(limit) => timeout(limit, connected).await.unwrap_or(Err(None)),
             None => connected.await,
         }
     }
@@ -141,7 +139,7 @@ impl<M: ManageConnection> Attempt<M> {
     fn back_off(&mut self) {
         let longest = self.shared.settings.config.connection_timeout / 2;
         let longer = self.wait.max(SHORTEST).saturating_mul(2);
-        self.wait = longer.min(longest).clamp(Duration::from_millis(1), LONGEST);
+        self.wait = longer.min(longest).max(Duration::from_millis(1));
     }
 
     /// Frees the approval, and asks for another one if a get waits. Returns whether this task goes

@@ -68,7 +68,11 @@ pub(crate) enum Checks {
     Stale,
 }
 
-/// Builds a pool from settings and a manager. Each setter names its default.
+/// The longest time of a timer, 30 years: a clock may not represent the end of a longer one.
+pub(crate) const LONGEST: Duration = Duration::from_secs(30 * 365 * 24 * 60 * 60);
+
+/// Builds a pool from settings and a manager. Each setter names its default. A timeout above 30
+/// years counts as 30 years.
 #[derive(Debug)]
 #[must_use]
 pub struct Builder<M: ManageConnection> {
@@ -493,8 +497,15 @@ impl<M: ManageConnection> Builder<M> {
     }
 
     #[track_caller]
-    fn make(self, manager: M) -> Pool<M> {
-        let config = &self.config;
+    fn make(mut self, manager: M) -> Pool<M> {
+        let config = &mut self.config;
+        let limits = [&mut config.connect_timeout, &mut config.test_timeout];
+        for span in limits.into_iter().flatten() {
+            *span = LONGEST.min(*span);
+        }
+        for span in [&mut config.connection_timeout, &mut config.reaper_rate] {
+            *span = LONGEST.min(*span);
+        }
         assert!(
             config.min_idle.unwrap_or(0) <= config.max_size,
             "min_idle must be no larger than max_size"

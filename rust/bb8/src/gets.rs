@@ -1,7 +1,7 @@
 //! The calls that check a connection out of a pool.
 
 use crate::api::{Pool, PooledConnection};
-use crate::builder::Config;
+use crate::builder::{Config, LONGEST};
 use crate::errors::RunError;
 use crate::managers::ManageConnection;
 use std::future::Future;
@@ -99,7 +99,7 @@ impl<M: ManageConnection> Pool<M> {
         &self,
         timeout: Duration,
     ) -> Result<PooledConnection<'_, M>, RunError<M::Error>> {
-        let limit = move |_: &_| timeout;
+        let limit = move |_: &_| timeout.min(LONGEST);
         self.checkout::<true, _>(limit, |got| got.ok_or(RunError::TimedOut))
             .await
     }

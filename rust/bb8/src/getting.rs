@@ -9,7 +9,7 @@ use crate::errors::RunError;
 use crate::events::MAX_LIFETIME;
 use crate::lock::MutexGuard;
 use crate::managers::ManageConnection;
-use crate::pool::{Locked, Shared, LONGEST};
+use crate::pool::{Locked, Shared};
 use crate::returning::{gave_up, Fate, Step};
 use crate::waiters::Handed;
 use std::future::{poll_fn, Future};
@@ -157,7 +157,7 @@ fn started(
     deadline: impl FnOnce() -> Option<Instant>,
 ) -> Option<Pin<&mut Sleep>> {
     if timer.is_none() {
-        timer.set(Some(sleep_until(deadline()?.min(Instant::now() + LONGEST))));
+        timer.set(Some(sleep_until(deadline()?)));
     }
     timer.as_pin_mut()
 }

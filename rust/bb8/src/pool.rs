@@ -459,9 +459,6 @@ fn nanoseconds(span: Duration) -> u64 {
     seconds.saturating_add(u64::from(span.subsec_nanos()))
 }
 
-/// The longest time of a timer, 30 years: a clock may not represent the end of a longer one.
-pub(crate) const LONGEST: Duration = Duration::from_secs(30 * 365 * 24 * 60 * 60);
-
 /// The owner that all handles share: its drop closes the pool. If memory to list the idle
 /// connections is refused, they are dropped once the last connection attempt has ended.
 pub(crate) struct Owner<M: ManageConnection> {
@@ -473,7 +470,7 @@ impl<M: ManageConnection> Owner<M> {
     /// limited.
     pub(crate) fn new(settings: Builder<M>, manager: M) -> Arc<Self> {
         let has_limits = settings.config.has_limits();
-        let rate = settings.config.reaper_rate.min(LONGEST);
+        let rate = settings.config.reaper_rate;
         let shared = Arc::new(Shared::new(settings, manager));
         let owner = Arc::new(Owner { shared });
         if has_limits {
