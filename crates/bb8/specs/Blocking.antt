@@ -4,7 +4,7 @@ use Rattle.std.specs.Prelude.{◌≡◌, ℕ, Option, Some, None, Result, Ok, Er
 use Rattle.std.specs.Arc.{arc_value}
 use Rattle.bb8_types.specs.declared.api.errors.RunError.{RunError}
 use Rattle.bb8_types.specs.Settings.{settings_of}
-use Rattle.bb8_gets.specs.declared.home.Taken.{Taken}
+use Rattle.bb8_lock.specs.declared.gets.home.Taken.{Taken}
 use Rattle.bb8_lock.specs.declared.locked.Permit.{Permit}
 use Rattle.bb8_lock.specs.Scope.{MakesGuard, OwnLeaves, OwnTakesNow, OwnWaits}
 use Rattle.bb8_lock.specs.declared.locked.Permits.{Ghosts as PermitsOf}

@@ -3,7 +3,7 @@ use Rattle.std.specs.Prelude.{◌≡◌, Result}
 use Rattle.futures.specs.declared.task.Poll.{Poll}
 use Rattle.bb8_types.specs.declared.api.errors.RunError.{RunError}
 use Rattle.bb8.specs.declared.get.future.GetFuture.{GetFuture}
-use Rattle.bb8_gets.specs.declared.home.Taken.{Taken}
+use Rattle.bb8_lock.specs.declared.gets.home.Taken.{Taken}
 use Rattle.bb8_lock.specs.declared.locked.Permit.{Permit}
 use Rattle.bb8_lock.specs.declared.shared.Shared.{Shared}
 use Rattle.bb8.specs.declared.pool.PooledConnection.{PooledConnection}

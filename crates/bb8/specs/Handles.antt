@@ -3,8 +3,8 @@ use Rattle.std.specs.Prelude.{◌≡◌, Result, Ok, Err, ⊤}
 use Rattle.std.specs.Arc.{arc_value}
 use Rattle.bb8_types.specs.declared.api.errors.RunError.{RunError}
 use Rattle.bb8_types.specs.declared.api.errors.RunError.TheVariants as errors
-use Rattle.bb8_gets.specs.declared.home.Joining.{Joining}
-use Rattle.bb8_gets.specs.declared.home.Joining.TheVariants as joining
+use Rattle.bb8_lock.specs.declared.gets.home.Joining.{Joining}
+use Rattle.bb8_lock.specs.declared.gets.home.Joining.TheVariants as joining
 use Rattle.bb8_lock.specs.Scope.{OwnJoins}
 use Rattle.bb8_lock.specs.declared.handle.Handle.{Handle}
 use Rattle.bb8.specs.declared.handles.BareHandle.{BareHandle}

@@ -13,10 +13,9 @@ pub mod Services
 pub use Rattle.bb8_types.specs.Errors
 pub use Rattle.bb8_types.specs.Figures
 pub use Rattle.bb8_types.specs.Settings
-pub use Rattle.bb8_gets.specs.Homes
-pub use Rattle.bb8_gets.specs.Polls
-pub use Rattle.bb8_gets.specs.Steps
-pub use Rattle.bb8_gets.specs.Outcomes
+pub use Rattle.bb8_lock.specs.Polls
+pub use Rattle.bb8_lock.specs.Steps
+pub use Rattle.bb8_lock.specs.Outcomes
 pub use Rattle.bb8_lock.specs.Traces
 pub use Rattle.bb8_lock.specs.Permits
 pub use Rattle.bb8_lock.specs.Scope

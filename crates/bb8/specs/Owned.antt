@@ -4,9 +4,9 @@ use Rattle.std.specs.Arc.{arc_value}
 use Rattle.futures.specs.declared.task.Poll.{Poll}
 use Rattle.futures.specs.declared.task.Poll.TheVariants.{Ready, Pending}
 use Rattle.bb8_types.specs.declared.api.errors.RunError.{RunError}
-use Rattle.bb8_gets.specs.declared.home.Taken.{Taken}
-use Rattle.bb8_gets.specs.declared.state.GetState.{GetState}
-use Rattle.bb8_gets.specs.declared.state.Stage.TheVariants.{Fresh}
+use Rattle.bb8_lock.specs.declared.gets.home.Taken.{Taken}
+use Rattle.bb8_lock.specs.declared.gets.state.GetState.{GetState}
+use Rattle.bb8_lock.specs.declared.gets.state.Stage.TheVariants.{Fresh}
 use Rattle.bb8_lock.specs.declared.locked.Permit.{Permit}
 use Rattle.bb8.specs.declared.handles.BareHandle.{BareHandle}
 use Rattle.bb8.specs.declared.owned.OwnedConnection.{OwnedConnection}

@@ -5,7 +5,7 @@ use Rattle.bb8_types.specs.declared.api.moments.Moment.{Moment}
 use Rattle.bb8_types.specs.Settings.{Settings, settings_of}
 use Rattle.bb8.specs.declared.pool.Pool.{Pool}
 use Rattle.bb8.specs.declared.get.future.GetFuture.{GetFuture}
-use Rattle.bb8_gets.specs.declared.state.Stage.{Stage}
+use Rattle.bb8_lock.specs.declared.gets.state.Stage.{Stage}
 use Rattle.bb8_lock.specs.declared.locked.Permit.{Permit}
 use Rattle.bb8_lock.specs.declared.locked.Permits.{Ghosts as PermitsOf}
 use Rattle.bb8_lock.specs.Words.{ManagerOf, DebugOf, SinkOf, CustomizerOf, ClockOf}

@@ -10,7 +10,7 @@ use bb8_core::api::{
     Clock, CustomizeConnection, ErrorSink, ManageConnection, Memory, Moment, RunError,
 };
 use bb8_core::internals::Grant;
-use bb8_gets::GetHome;
+use bb8_lock::gets::GetHome;
 use bb8_lock::{
     Locks, NewPool, OpensScope, Permits, PoolTypes, Shared, SignalLock, TypesOf, begin_pool,
 };

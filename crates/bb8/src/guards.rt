@@ -3,7 +3,7 @@ ghost use Rattle.std.specs.Prelude.{◌≡◌, ◌+◌, ◌<◌, ◌≤◌, ◌�
 
 use crate::pool::{IntoParts, Pool, PooledConnection};
 use bb8_core::internals::Key;
-use bb8_gets::Taken;
+use bb8_lock::gets::Taken;
 use bb8_lock::{Gathered, Permits, PoolTypes, Shared};
 use std::alloc::Global;
 use std::marker::PhantomData;

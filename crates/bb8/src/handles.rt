@@ -3,7 +3,7 @@ ghost use Rattle.std.specs.Arc.{arc_value};
 
 use crate::pool::Pool;
 use bb8_core::api::RunError;
-use bb8_gets::Joining;
+use bb8_lock::gets::Joining;
 use bb8_lock::{Handle, OpensScope, Permits, PoolTypes, Shared, join};
 use std::alloc::Global;
 use std::sync::Arc;

@@ -5,7 +5,7 @@ ghost use Rattle.std.specs.Arc.{arc_value};
 use crate::handles::BareHandle;
 use crate::pool::{Cancel, Detach};
 use bb8_core::api::RunError;
-use bb8_gets::{GetState, Taken};
+use bb8_lock::gets::{GetState, Taken};
 use bb8_lock::{
     OpensScope, Permit, Permits, PoolTypes, cancel_and_leave, detach_and_leave,
     give_back_and_leave, leave,

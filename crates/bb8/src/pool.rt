@@ -17,7 +17,7 @@ use bb8_core::api::{
     AddError, Clock, Config, CustomizeConnection, ErrorSink, ManageConnection, Memory,
     NopCustomizer, NopErrorSink, RunError, SetClock, State,
 };
-use bb8_gets::{GetState, Taken};
+use bb8_lock::gets::{GetState, Taken};
 use bb8_lock::{
     Handle, Locks, OpensScope, Permit, Permits, PoolTypes, Shared, TypesOf, add, close, detach,
     give_back, is_closed, retire, state, take_now, wait,
@@ -166,7 +166,7 @@ impl<'a, G: PoolTypes, L: Permits> Gets for &'a Pool<G, L> {
     ghost use Rattle.bb8.specs.Dedicated.{opening_of};
     ghost use Rattle.bb8.specs.Pools.{stage_of, IsOf};
     ghost use Rattle.bb8_tasks.specs.Dedicating.{fresh};
-    ghost use Rattle.bb8_gets.specs.declared.state.Stage.TheVariants.{Fresh as IsFresh};
+    ghost use Rattle.bb8_lock.specs.declared.gets.state.Stage.TheVariants.{Fresh as IsFresh};
 
     type Get = GetFuture<'a, G, L>;
 

@@ -10,12 +10,11 @@ use Rattle.bb8_core.specs.declared.answers.Started.TheVariants as starting
 use Rattle.bb8_core.specs.declared.answers.Unfit.{Unfit as Refused}
 use Rattle.bb8_core.specs.declared.answers.TryAnswer.{TryAnswer}
 use Rattle.bb8_core.specs.StepAnswers.{Starts}
-use Rattle.bb8_gets.specs.declared.home.FirstTry.{FirstTry}
-use Rattle.bb8_gets.specs.declared.home.FirstTry.TheVariants as first
-use Rattle.bb8_gets.specs.declared.home.Tried.{Tried}
-use Rattle.bb8_gets.specs.Homes.{StepsIn}
-use Rattle.bb8_gets.specs.Steps.{IsSorted, StartsBy}
-use Rattle.bb8_gets.specs.Outcomes.{in_core}
+use Rattle.bb8_lock.specs.declared.gets.home.FirstTry.{FirstTry}
+use Rattle.bb8_lock.specs.declared.gets.home.FirstTry.TheVariants as first
+use Rattle.bb8_lock.specs.declared.gets.home.Tried.{Tried}
+use Rattle.bb8_lock.specs.Steps.{IsSorted, StartsBy}
+use Rattle.bb8_lock.specs.Outcomes.{in_core}
 use Rattle.bb8_tables.specs.declared.keys.GetKey.{GetKey}
 use Rattle.bb8_types.specs.declared.api.configuration.Config.{Config}
 use Rattle.bb8_types.specs.declared.api.moments.Moment.{Moment}
@@ -27,7 +26,6 @@ use Rattle.bb8_core.specs.StateView.{StateView, HasLedger, IsAsBefore, IsWithinL
 use Rattle.bb8_core.specs.Unfit.{answered}
 use Rattle.bb8_core.specs.Run.{opening}
 use Rattle.bb8_core.proofs.Fitting.{meets_still}
-use Rattle.bb8_core.proofs.StepBounds.{config_kept}
 use Rattle.bb8_ledger.proofs.Effects.{by_fit}
 
 -- an answer that a connection was refused as broken
@@ -44,27 +42,24 @@ module _ {C : Type 0} where
   none_left s fitting (l, legal, means) reports =
       ap not (reports l legal means) ∙ (no_fewer (handles l) ∙ ap (λ (t : StateView C). eqb t.handles 0) means)
 
-  -- a get that begins and tries does both in a state of these settings
-  pub starts_in : {P : Type 0} (old new : StateView C) {settings : Settings} (at : Moment) (g : GetKey) (t : Tried C P) {outcome : TryAnswer C} → in_core t ≡ outcome
-      → old.config ≡ settings → Starts old at.0 (starting.Tried g outcome) new
-      → StartsBy (StepsIn settings) old at.0 (Ok (first.Tried g t)) new
-  starts_in old new {settings} at g t is same starts =
-      let s = subst (λ (q : TryAnswer C). Starts old at.0 (starting.Tried g q) new) (sym is) starts in
-      (s.0, (same, s.1), (config_kept s.0 at.0 Begin (Begun g.number) s.1 ∙ same, s.2), s.3)
+  -- a get that begins and tries, with its permit
+  pub starts_in : {P : Type 0} (old new : StateView C) (at : Moment) (g : GetKey) (t : Tried C P) {outcome : TryAnswer C} → in_core t ≡ outcome
+      → Starts old at.0 (starting.Tried g outcome) new → StartsBy old at.0 (Ok (first.Tried g t)) new
+  starts_in old new at g t is starts = subst (λ (q : TryAnswer C). Starts old at.0 (starting.Tried g q) new) (sym is) starts
 
   -- a start from a state as before, but for the count of accesses, is one from the former state
-  step_still : (settings : Settings) {old mid : StateView C} (new : StateView C) (at : ℕ) (e : Act C) (a : Answer) → IsAsBefore old mid → IsWithinLimits old
-      → StepsIn settings mid at e a new → StepsIn settings old at e a new
-  step_still settings new at e a same limits (config, (_, meets)) = (sym (ap (λ (s : StateView C). s.config) same) ∙ config, (limits, meets_still new at e a same meets))
+  step_still : {old mid : StateView C} (new : StateView C) (at : ℕ) (e : Act C) (a : Answer) → IsAsBefore old mid → IsWithinLimits old
+      → Steps mid at e a new → Steps old at e a new
+  step_still new at e a same limits (_, meets) = (limits, meets_still new at e a same meets)
 
-  pub starts_still : {P : Type 0} (settings : Settings) (old mid new : StateView C) (at : ℕ) (r : Result (FirstTry C P) Refused) → IsAsBefore old mid → IsWithinLimits old
-      → StartsBy (StepsIn settings) mid at r new → StartsBy (StepsIn settings) old at r new
-  starts_still settings old mid new at (Ok (first.Tried g t)) same limits (between, begins, tries, out) =
-      (between, step_still settings between at Begin (Begun g.number) same limits begins, tries, out)
-  starts_still settings old mid new at (Ok first.Memory) same limits begins = step_still settings new at Begin Memory same limits begins
-  starts_still settings old mid new at (Ok first.Exhausted) same limits begins = step_still settings new at Begin Exhausted same limits begins
-  starts_still settings old mid new at (Err u) same limits (begins, as_mid) =
-      (step_still settings new at Begin Unfit same limits begins, as_mid ∙ ap (λ (s : StateView C). record s { reads = new.reads }) same)
+  pub starts_still : {P : Type 0} (old mid new : StateView C) (at : ℕ) (r : Result (FirstTry C P) Refused) → IsAsBefore old mid → IsWithinLimits old
+      → StartsBy mid at r new → StartsBy old at r new
+  starts_still old mid new at (Ok (first.Tried g t)) same limits (between, begins, tries, out) =
+      (between, step_still between at Begin (Begun g.number) same limits begins, tries, out)
+  starts_still old mid new at (Ok first.Memory) same limits begins = step_still new at Begin Memory same limits begins
+  starts_still old mid new at (Ok first.Exhausted) same limits begins = step_still new at Begin Exhausted same limits begins
+  starts_still old mid new at (Err u) same limits (begins, as_mid) =
+      (step_still new at Begin Unfit same limits begins, as_mid ∙ ap (λ (s : StateView C). record s { reads = new.reads }) same)
 
   -- an adding is refused as broken just where the connection is broken
   add_row : (l : Ledger C) (at : ℕ) (c : C) (b : Bool) (a : Answer) → Row l at (Add c b) a → refuses_broken a ≡ b

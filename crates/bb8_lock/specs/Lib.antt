@@ -1,3 +1,6 @@
+pub mod Outcomes
+pub mod Steps
+pub mod Polls
 pub mod Signals
 pub mod Traces
 pub mod Gathered
@@ -5,10 +8,6 @@ pub mod Scope
 pub mod Opening
 pub mod Permits
 pub mod Turning
-pub use Rattle.bb8_gets.specs.Homes
-pub use Rattle.bb8_gets.specs.Polls
-pub use Rattle.bb8_gets.specs.Steps
-pub use Rattle.bb8_gets.specs.Outcomes
 pub use Rattle.bb8_types.specs.Errors
 pub use Rattle.bb8_types.specs.Figures
 pub use Rattle.bb8_types.specs.Settings

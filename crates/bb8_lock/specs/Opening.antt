@@ -1,7 +1,7 @@
 -- Connection tasks on a pool's lock, which is acquired for each step alone, with the pool's own
 -- manager, customizer, error sink and clock.
 use Rattle.std.specs.Prelude.{◌≡◌, None, Result, List}
-use Rattle.bb8_lock.specs.Words.{as_nanos, DebugOf, Poll, CustomizerOf, ManagerOf, SinkOf, ClockOf, StepsIn, OpenerOf, PermitsOf, LockScope, Shared}
+use Rattle.bb8_lock.specs.Words.{as_nanos, DebugOf, Poll, CustomizerOf, ManagerOf, SinkOf, ClockOf, OpenerOf, PermitsOf, LockScope, Shared}
 use Rattle.bb8_tasks.specs.declared.dedicated.Dedicated.{Dedicated}
 use Rattle.bb8_tasks.specs.declared.home.Home.{Ghosts as HomeOf}
 use Rattle.bb8_tasks.specs.declared.replenish.Replenish.{Replenish}
@@ -28,7 +28,7 @@ module _ {G L M S Z K R C E N V A : Type 0} {m : ManagerOf M C E N V} {d : Debug
     (shared : Shared G L M S Z K R C E N V A m d s z k l) where
   -- the relations of the lock as a home of tasks
   abbrev pub tasks_home : HomeOf (Scope shared) C
-  tasks_home = record { steps = λ x at s x'. Visits (Notified shared) (λ t t'. TaskStepsBy (StepsIn l.settings) t.core at s t'.core) s x x' }
+  tasks_home = record { steps = λ x at s x'. Visits (Notified shared) (λ t t'. (t.core.config ≡ l.settings) × TaskStepsBy t.core at s t'.core) s x x' }
 
   -- the relations of the callbacks of a pool's manager, customizer, clock and error sink
   abbrev pub opener : OpenerOf (Scope shared) C E N A

@@ -6,7 +6,7 @@ use Rattle.std.specs.Sync.Mutex.{mutex_guard_value}
 use Rattle.bb8_lock.specs.declared.signal.Signals.{Signals}
 use Rattle.bb8_lock.specs.Signals.{signals_of_step, joined, silent}
 use Rattle.bb8_lock.specs.Traces.{AddsOutside, Answers, CancelsAndLeaves, Joins, HandleLeaves, Returns, ReturnsAndLeaves, Retires, Shows, TakesNow, Waits, Closes, Detaches, DetachesAndLeaves, ReportsClosed}
-use Rattle.bb8_gets.specs.Steps.{StepsBy}
+use Rattle.bb8_lock.specs.Steps.{StepsBy}
 use Rattle.bb8_lock.specs.declared.signal.Rests.{Ghosts as RestsOf}
 use Rattle.bb8_lock.specs.declared.handle.Handle.{Handle}
 
@@ -59,7 +59,7 @@ module _ {G L M S Z K R C E N V A : Type 0} {m : ManagerOf M C E N V} {d : Debug
   abbrev pub gets : HomeOf Scope C (Permit L) Handle
   gets = record {
     releases = λ x x'. Frees Notified x x';
-    steps = λ x at s x'. Leads (λ t t'. StepsBy l.settings t.core at s t'.core) (λ t'. signals_of_step (eqb t'.core.handles 0) s) x x';
+    steps = λ x at s x'. Leads (λ t t'. (t.core.config ≡ l.settings) × StepsBy t.core at s t'.core) (λ t'. signals_of_step (eqb t'.core.handles 0) s) x x';
   }
 
   -- the relations of the callbacks of its manager, error sink and clock

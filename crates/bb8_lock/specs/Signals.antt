@@ -4,10 +4,10 @@ use Rattle.bb8_ledger.specs.Answers.{Answer, Served, Taken, Waiting, Closed, Gra
 use Rattle.bb8_ledger.specs.Handed.{notified_by}
 use Rattle.bb8_core.specs.Unfit.{answered}
 use Rattle.bb8_core.specs.StepAnswers.{answer_of_add, answer_of_checked_err, answer_of_give_up, answer_of_opened, answer_of_put_back, answer_of_reap, answer_of_detach}
-use Rattle.bb8_gets.specs.declared.home.FirstTry.{FirstTry}
-use Rattle.bb8_gets.specs.declared.home.FirstTry.TheVariants as first
-use Rattle.bb8_gets.specs.Steps.{GetStep, Starts, Tries, Fails, GivesUp, GivesBack, PutsBack, Adds, Leaves, Retires, Detaches, Closes}
-use Rattle.bb8_gets.specs.Outcomes.{answer_of_tried}
+use Rattle.bb8_lock.specs.declared.gets.home.FirstTry.{FirstTry}
+use Rattle.bb8_lock.specs.declared.gets.home.FirstTry.TheVariants as first
+use Rattle.bb8_lock.specs.Steps.{GetStep, Starts, Tries, Fails, GivesUp, GivesBack, PutsBack, Adds, Leaves, Retires, Detaches, Closes}
+use Rattle.bb8_lock.specs.Outcomes.{answer_of_tried}
 use Rattle.bb8_lock.specs.declared.signal.Signals.{Signals}
 use Rattle.bb8_tasks.specs.TaskSteps.{TaskStep, Opens, Asks}
 

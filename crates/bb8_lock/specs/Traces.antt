@@ -4,7 +4,7 @@
 use Rattle.std.specs.Prelude.{◌≡◌, ℕ, ◌<◌, Bool, Option, Some, None, Result, Ok, Err, List, [], ◌∷◌, ◌⊎◌, not}
 use Rattle.circular_buffer.specs.Buffer.{Buffer, buffer}
 use Rattle.bb8_lock.specs.Words.{Poll, Ready, Pending, AddError, RunError, State, Moment, AddAnswer, HomeOf, Taken, OutsideOf, Settled, Stage, Asks, Cancels, Starts, GetPolls, Joining}
-use Rattle.bb8_gets.specs.declared.state.Stage.TheVariants.{Fresh}
+use Rattle.bb8_lock.specs.declared.gets.state.Stage.TheVariants.{Fresh}
 use Rattle.bb8_types.specs.declared.api.errors.AddError.TheVariants.{Broken, NoCapacity, Withheld}
 use Rattle.bb8_core.specs.declared.answers.AddAnswer.TheVariants as adding
 use Rattle.bb8_core.specs.declared.answers.DetachAnswer.{DetachAnswer}
@@ -14,12 +14,12 @@ use Rattle.bb8_core.specs.declared.answers.PutBackAnswer.{PutBackAnswer}
 use Rattle.bb8_core.specs.declared.answers.PutBackAnswer.TheVariants as put_back
 use Rattle.bb8_core.specs.declared.answers.ReapAnswer.{ReapAnswer}
 use Rattle.bb8_tables.specs.declared.closed.Closed.{Closed}
-use Rattle.bb8_gets.specs.declared.home.Returned.{Returned}
+use Rattle.bb8_lock.specs.declared.gets.home.Returned.{Returned}
 use Rattle.bb8_core.specs.declared.answers.Unfit.{Unfit}
-use Rattle.bb8_gets.specs.Polls.{rest_of}
+use Rattle.bb8_lock.specs.Polls.{rest_of}
 use Rattle.bb8_lock.specs.declared.signal.Rests.{Ghosts as RestsOf}
 use Rattle.bb8_lock.specs.declared.signal.Sleeper.TheVariants.{Get}
-use Rattle.bb8_gets.specs.Steps as step
+use Rattle.bb8_lock.specs.Steps as step
 
 -- The caller's result of an add: if no handle is alive, there is no capacity.
 abbrev pub IsAddResult : {C : Type 0} → Result (AddAnswer C) C → Result (Unit {0}) (AddError C) → Type 0

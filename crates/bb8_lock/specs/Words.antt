@@ -6,13 +6,13 @@ pub use Rattle.bb8_types.specs.declared.api.errors.RunError.{RunError}
 pub use Rattle.bb8_types.specs.declared.api.figures.State.{State}
 pub use Rattle.bb8_types.specs.declared.api.moments.Moment.{Moment}
 pub use Rattle.bb8_core.specs.declared.answers.AddAnswer.{AddAnswer}
-pub use Rattle.bb8_gets.specs.declared.home.GetHome.{Ghosts as HomeOf}
-pub use Rattle.bb8_gets.specs.declared.home.Taken.{Taken}
-pub use Rattle.bb8_gets.specs.declared.outside.Outside.{Ghosts as OutsideOf}
-pub use Rattle.bb8_gets.specs.declared.state.Settled.{Settled}
-pub use Rattle.bb8_gets.specs.declared.state.Stage.{Stage}
-pub use Rattle.bb8_gets.specs.Polls.{Asks, Cancels, Starts, GetPolls}
-pub use Rattle.bb8_gets.specs.declared.home.Joining.{Joining}
+pub use Rattle.bb8_lock.specs.declared.gets.home.GetHome.{Ghosts as HomeOf}
+pub use Rattle.bb8_lock.specs.declared.gets.home.Taken.{Taken}
+pub use Rattle.bb8_lock.specs.declared.gets.outside.Outside.{Ghosts as OutsideOf}
+pub use Rattle.bb8_lock.specs.declared.gets.state.Settled.{Settled}
+pub use Rattle.bb8_lock.specs.declared.gets.state.Stage.{Stage}
+pub use Rattle.bb8_lock.specs.Polls.{Asks, Cancels, Starts, GetPolls}
+pub use Rattle.bb8_lock.specs.declared.gets.home.Joining.{Joining}
 pub use Rattle.std.specs.declared.sync.MutexGuard.{MutexGuard}
 pub use Rattle.std.specs.declared.fmt.Debug.{Ghosts as DebugOf}
 pub use Rattle.bb8_types.specs.declared.api.managers.ManageConnection.{Ghosts as ManagerOf}
@@ -23,8 +23,7 @@ pub use Rattle.bb8_lock.specs.declared.locked.Permit.{Permit}
 pub use Rattle.bb8_lock.specs.declared.locked.Permits.{Ghosts as PermitsOf}
 pub use Rattle.bb8_lock.specs.declared.scope.LockScope.{LockScope}
 pub use Rattle.bb8_lock.specs.declared.shared.Shared.{Shared}
-pub use Rattle.bb8_gets.specs.Homes.{StepsIn}
-pub use Rattle.bb8_gets.specs.Outcomes.{in_core, answer_of_tried}
+pub use Rattle.bb8_lock.specs.Outcomes.{in_core, answer_of_tried}
 pub use Rattle.std.specs.Duration.{as_nanos}
 pub use Rattle.bb8_types.specs.declared.api.clocks.Clock.{Ghosts as ClockOf}
 pub use Rattle.bb8_types.specs.declared.api.sinks.ErrorSink.{Ghosts as SinkOf}

@@ -5,9 +5,9 @@ ghost use Rattle.std.specs.Prelude.{◌≡◌};
 ghost use Rattle.std.specs.Duration.{as_nanos};
 ghost use Rattle.bb8_lock.specs.Traces.{AddsOutside, AfterReturn, CancelsAndLeaves, IsAddResult, Joins, HandleLeaves, Returns, ReturnsAndLeaves, Retires, RetiresInto, Shows, TakesNow, TriesOnce, Closes, ClosesInto, Detaches, DetachesAndLeaves, DropsEach, IsListFor, ReportsClosed};
 
+use crate::gets::{GetHome, GetState, Joining, Outside, Taken, ask};
 use bb8_core::api::{AddError, Moment, RunError, State};
 use bb8_core::internals::{AddAnswer, ClosedList, PutBackAnswer};
-use bb8_gets::{GetHome, GetState, Joining, Outside, Taken, ask};
 use futures::task::Poll;
 use std::alloc::Global;
 use std::time::Duration;

@@ -4,13 +4,14 @@
 //! clock is called here.
 ghost use Rattle.std.specs.Prelude.{◌≡◌, ◌+◌, ◌≤◌, IfOk, Some};
 ghost use Rattle.bb8_ledger.specs.Acts as acts;
+ghost use Rattle.bb8_core.specs.StateView.{Steps};
 ghost use Rattle.bb8_core.specs.Unfit.{OrComesBack, Stepped};
 ghost use Rattle.bb8_core.specs.StepAnswers.{answer_of_add, answer_of_checked_err, answer_of_give_up, answer_of_put_back, reason_of, GivesBack, GivesBackHeld, GivesBackInvalid, Refuses};
-ghost use Rattle.bb8_gets.specs.Homes.{StepsIn};
-ghost use Rattle.bb8_gets.specs.Steps.{IsSorted, StartsBy, StepsBy};
-ghost use Rattle.bb8_gets.specs.Outcomes.{in_core};
+ghost use Rattle.bb8_lock.specs.Steps.{IsSorted, StartsBy, StepsBy};
+ghost use Rattle.bb8_lock.specs.Outcomes.{in_core};
 ghost use Rattle.bb8_core.specs.StepBounds.{goes_out, out_of};
 
+use crate::gets::{FirstTry, GetHome, Joining, Passed, Returned, Taken, Tried};
 use crate::handle::Handle;
 use crate::locked::{Locked, Permit, Permits};
 use bb8_core::api::{Moment, State};
@@ -19,7 +20,6 @@ use bb8_core::internals::{
     JoinAnswer, Key, LeaveAnswer, Looked, PoolInternals, PutBackAnswer, ReapAnswer, Reason,
     Started, TryAnswer, Unfit,
 };
-use bb8_gets::{FirstTry, GetHome, Joining, Passed, Returned, Taken, Tried};
 use std::sync::ledger::Share;
 
 /// Turns a try's result into one with a permit for its connection, if it has one. The state already
@@ -65,7 +65,7 @@ impl<C: Drop, L: Permits> Locked<C, L> {
     /// Begins a get that `serve_at_once` did not serve, and lets it try.
     #[inline(never)]
     fn start_on(&mut self, at: Moment) -> Result<FirstTry<C, Permit<L>>, Unfit>
-        ensures { StartsBy (StepsIn L.settings) self.old.core at.0 result self.new.core }
+        ensures { StartsBy self.old.core at.0 result self.new.core }
     {
         let Locked { core, rest, .. } = self;
         match core.start(at) {
@@ -89,7 +89,7 @@ impl<C: Drop, L: Permits> GetHome<C> for Locked<C, L> {
 
     ghost releases = { λ h h'. h' ≡ h };
 
-    ghost steps = { λ h at s h'. StepsBy L.settings h.core at s h'.core };
+    ghost steps = { λ h at s h'. (h.core.config ≡ L.settings) × StepsBy h.core at s h'.core };
 
     /// The caller that holds the lock releases it.
     fn release(&mut self) {}
@@ -159,7 +159,7 @@ impl<C: Drop, L: Permits> GetHome<C> for Locked<C, L> {
         get: GetKey,
         returned: Returned<C, Permit<L>>,
     ) -> Result<CheckedErrAnswer<C>, C>
-        ensures step { Stepped (StepsIn L.settings) answer_of_checked_err self.old.core at.0
+        ensures step { Stepped Steps answer_of_checked_err self.old.core at.0
             (acts.CheckedErr get.number returned.broken) result self.new.core }
         ensures connection { OrComesBack GivesBackInvalid returned.taken.connection result }
     {
@@ -193,7 +193,7 @@ impl<C: Drop, L: Permits> GetHome<C> for Locked<C, L> {
         reason: Reason,
         returned: Returned<C, Permit<L>>,
     ) -> Result<GiveUpAnswer<C>, C>
-        ensures step { Stepped (StepsIn L.settings) answer_of_give_up self.old.core at.0
+        ensures step { Stepped Steps answer_of_give_up self.old.core at.0
             (acts.GiveUp get.number (reason_of reason) (Some returned.taken.connection)
             returned.broken) result self.new.core }
         ensures connection { OrComesBack (λ c. GivesBackHeld (Some c))
@@ -213,7 +213,7 @@ impl<C: Drop, L: Permits> GetHome<C> for Locked<C, L> {
 
     #[inline(always)]
     fn put_back(&mut self, at: Moment, back: Returned<C, Permit<L>>) -> Result<PutBackAnswer<C>, C>
-        ensures step { Stepped (StepsIn L.settings) (answer_of_put_back back.taken.key.number)
+        ensures step { Stepped Steps (answer_of_put_back back.taken.key.number)
             self.old.core at.0
             (acts.PutBack back.taken.key.number back.taken.connection back.broken)
             result self.new.core }
@@ -232,7 +232,7 @@ impl<C: Drop, L: Permits> GetHome<C> for Locked<C, L> {
     }
 
     fn add(&mut self, at: Moment, conn: C, broken: bool) -> Result<AddAnswer<C>, C>
-        ensures step { Stepped (StepsIn L.settings) answer_of_add self.old.core at.0
+        ensures step { Stepped Steps answer_of_add self.old.core at.0
             (acts.Add conn broken) result self.new.core }
         ensures connection { OrComesBack Refuses conn result }
         ensures sorted { IfOk result (IsSorted broken) }

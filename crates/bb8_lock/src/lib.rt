@@ -6,6 +6,7 @@
 
 mod calls;
 mod gathered;
+pub mod gets;
 mod given;
 mod handle;
 mod home;

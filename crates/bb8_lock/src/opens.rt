@@ -1,18 +1,18 @@
 //! The data under a pool's lock as the home of connection tasks, its driver and its reaper.
-ghost use Rattle.bb8_gets.specs.Homes.{StepsIn};
+ghost use Rattle.std.specs.Prelude.{◌≡◌};
 ghost use Rattle.bb8_tasks.specs.Homes.{TaskStepsBy};
 
+use crate::gets::GetHome;
 use crate::locked::{Locked, Permits};
 use bb8_core::api::Moment;
 use bb8_core::internals::{
     ClaimAnswer, FailedAnswer, Grant, Key, Looked, OpenedAnswer, ReapAnswer, Unfit,
 };
-use bb8_gets::GetHome;
 use bb8_tasks::Home;
 
 /// Each step leads from the state under the lock to the next one.
 impl<C: Drop, L: Permits> Home<C> for Locked<C, L> {
-    ghost steps = { λ h at s h'. TaskStepsBy (StepsIn L.settings) h.core at s h'.core };
+    ghost steps = { λ h at s h'. (h.core.config ≡ L.settings) × TaskStepsBy h.core at s h'.core };
 
     fn look(&mut self, at: Moment) -> Looked {
         GetHome::<C>::look(self, at)

@@ -1,9 +1,9 @@
 //! The user callbacks of a pool, made outside its lock: manager, error sink, customizer and clock.
 ghost use Rattle.std.specs.Prelude.{◌≡◌};
 
+use crate::gets::Outside;
 use crate::{LockScope, Locked, Permits, PoolTypes, Rests, Shared, Sleeper};
 use bb8_core::api::{Clock, CustomizeConnection, ErrorSink, ManageConnection, Moment};
-use bb8_gets::Outside;
 use bb8_tasks::Opener;
 use futures::task::Poll;
 use std::sync::Wait;

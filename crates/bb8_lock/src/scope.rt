@@ -1,10 +1,11 @@
 //! A pool's lock as the home of gets, guards, handles, connection tasks, the driver and the reaper.
 ghost use Rattle.std.specs.Prelude.{◌≡◌, None, ⊤};
-ghost use Rattle.bb8_gets.specs.Steps.{Fails, GivesBack, PutsBack};
+ghost use Rattle.bb8_lock.specs.Steps.{Fails, GivesBack, PutsBack};
 ghost use Rattle.bb8_lock.specs.Signals.{signals_of_step};
 ghost use Rattle.bb8_lock.specs.Scope.{IsScopeOf, Leads, Frees, StartsAt};
 ghost use Rattle.std.specs.Sync.Mutex.{mutex_guard_value};
 
+use crate::gets::{FirstTry, GetHome, Joining, LetGo, Passed, Returned, Tried};
 use crate::handle::Ends;
 use crate::locks::Locks;
 use crate::signal::{Locking, Signals};
@@ -15,7 +16,6 @@ use bb8_core::internals::{
     GiveUpAnswer, Grant, Key, LeaveAnswer, Looked, OpenedAnswer, PutBackAnswer, ReapAnswer, Reason,
     Unfit,
 };
-use bb8_gets::{FirstTry, GetHome, Joining, LetGo, Passed, Returned, Tried};
 use bb8_tasks::Home;
 use std::sync::MutexGuard;
 

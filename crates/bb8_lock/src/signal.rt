@@ -6,13 +6,13 @@ ghost use Rattle.std.specs.Duration.{as_nanos};
 ghost use Rattle.bb8_tables.specs.Keys.{notified_of};
 ghost use Rattle.bb8_core.specs.Unfit.{answered};
 ghost use Rattle.bb8_core.specs.StepAnswers.{answer_of_give_up};
-ghost use Rattle.bb8_gets.specs.Outcomes.{answer_of_tried};
+ghost use Rattle.bb8_lock.specs.Outcomes.{answer_of_tried};
 ghost use Rattle.bb8_lock.specs.declared.signal.Signals.{Signals as SignalsOf};
 ghost use Rattle.bb8_lock.specs.declared.signal.Sleeper.{Sleeper as SleeperOf};
 ghost use Rattle.bb8_lock.specs.Signals.{signals_for, signals_of, joined};
 
+use crate::gets::Tried;
 use bb8_core::internals::{GetKey, GiveUpAnswer};
-use bb8_gets::Tried;
 use std::sync::{Condvar, Mutex, MutexGuard, Wait};
 use std::time::Duration;
 

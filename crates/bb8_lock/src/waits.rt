@@ -2,9 +2,9 @@
 ghost use Rattle.std.specs.Duration.{as_nanos};
 ghost use Rattle.bb8_lock.specs.Traces.{Waits};
 
+use crate::gets::{GetHome, GetState, Outside, Taken};
 use crate::signal::{Rests, Sleeper};
 use bb8_core::api::RunError;
-use bb8_gets::{GetHome, GetState, Outside, Taken};
 use futures::task::Poll;
 use std::sync::Wait;
 use std::time::Duration;

@@ -1,5 +1,4 @@
 //! A pool's plain state as the home of its tasks, driver and reaper.
-ghost use Rattle.bb8_core.specs.StateView.{Steps};
 ghost use Rattle.bb8_tasks.specs.Homes.{TaskStepsBy};
 
 use super::home::Home;
@@ -10,7 +9,7 @@ use bb8_core::internals::{
 
 /// Each step is the state's own.
 impl<C: Drop> Home<C> for PoolInternals<C> {
-    ghost steps = { λ pool at s after. TaskStepsBy Steps pool at s after };
+    ghost steps = { λ pool at s after. TaskStepsBy pool at s after };
 
     fn look(&mut self, at: Moment) -> Looked {
         PoolInternals::look(self, at)

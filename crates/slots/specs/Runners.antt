@@ -8,7 +8,7 @@ use Rattle.bb8_types.specs.declared.api.clocks.Clock.{Ghosts as ClockOf}
 use Rattle.bb8_types.specs.declared.api.customizers.CustomizeConnection.{Ghosts as CustomizerOf}
 use Rattle.bb8_types.specs.declared.api.moments.Moment.{Moment}
 use Rattle.bb8_types.specs.declared.api.sinks.ErrorSink.{Ghosts as SinkOf}
-use Rattle.bb8_gets.specs.declared.state.Stage.TheVariants.{Fresh}
+use Rattle.bb8_lock.specs.declared.gets.state.Stage.TheVariants.{Fresh}
 use Rattle.bb8_tasks.specs.declared.turning.Turn.{Turn}
 use Rattle.bb8.specs.declared.TypesOf.{TypesOf}
 use Rattle.bb8.specs.declared.Permits.{Ghosts as PermitsOf}

@@ -3,7 +3,7 @@ ghost use Rattle.std.specs.Prelude.{◌≡◌};
 
 use crate::pool::{Cancel, PooledConnection};
 use bb8_core::api::RunError;
-use bb8_gets::GetState;
+use bb8_lock::gets::GetState;
 use bb8_lock::{OpensScope, Permit, Permits, PoolTypes, Shared};
 use futures::Future;
 use futures::task::{Context, Poll};

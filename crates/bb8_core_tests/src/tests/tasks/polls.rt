@@ -25,7 +25,7 @@ struct Served {
 }
 
 impl Home<u64> for Served {
-    ghost steps = { λ h at s h'. TaskStepsBy Steps h.state at s h'.state };
+    ghost steps = { λ h at s h'. TaskStepsBy h.state at s h'.state };
 
     fn look(&mut self, at: Moment) -> Looked {
         Home::look(&mut self.state, at)

@@ -1,5 +1,5 @@
 use Rattle.bb8_lock.proofs.Words.{as_nanos, EndsAt, WaitsOnce}
-use Rattle.bb8_gets.specs.declared.state.Stage.TheVariants.{Fresh}
+use Rattle.bb8_lock.specs.declared.gets.state.Stage.TheVariants.{Fresh}
 use Rattle.bb8_lock.proofs.waits.wait.Given as goal
 
 abbrev pub invariant-loop : goal.invariant-loop

@@ -1,4 +1,0 @@
-pub mod Homes
-pub mod Polls
-pub mod Steps
-pub mod Outcomes
