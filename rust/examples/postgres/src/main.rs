@@ -3,9 +3,9 @@
 //! table, the server's view, the tasks' own counts and the pool's figures are compared.
 //!
 //! Arguments: the connection string, and the command that restarts the server. If the connections
-//! are to PgBouncer, also the connection string of the server; and if PgBouncer pools transactions,
-//! also how many connections it may have. That serves the same transactions, because the statement
-//! of each is prepared and closed inside of it.
+//! are to PgBouncer, also the connection string of the server; and `shared` if PgBouncer pools
+//! transactions: then the server's processes are PgBouncer's, and not compared with the pool's
+//! limit. The transactions are the same, because each prepares and closes its own statement.
 
 use bb8::{ErrorSink, Pool, PooledConnection, RunError};
 use postgres_manager::{open, Connection, Database, Log};
@@ -41,16 +41,13 @@ struct Seen {
     let_go: AtomicU64,
     late: AtomicU64,
     longest: Mutex<Duration>,
-    /// Most processes of the pool at one moment, with those that it had closed, and without.
-    processes: AtomicU64,
+    /// Most processes of the pool at one moment, without those that it had closed.
     connections: AtomicU64,
     samples: AtomicU64,
     ended: AtomicU64,
     sunk: AtomicU64,
     quiet: AtomicBool,
     done: AtomicBool,
-    /// How many connections to the server PgBouncer may have, if it pools transactions.
-    shared: Option<u64>,
 }
 
 #[derive(Clone)]
@@ -156,12 +153,11 @@ async fn watch(config: Config, log: Arc<Log>, seen: Arc<Seen>) {
     }
 }
 
-/// Notes how many processes of the pool the server has, with those that it had closed, and without.
+/// Notes how many processes of the pool the server has, without those that it had closed.
 fn note(rows: &[Row], log: &Log, seen: &Seen) {
     let closed = log.closed.lock().unwrap();
     let alive = rows.iter().filter(|row| !closed.contains(&row.get(0)));
     seen.connections.fetch_max(alive.count() as u64, SeqCst);
-    seen.processes.fetch_max(rows.len() as u64, SeqCst);
 }
 
 /// Ends a connection of the pool every now and then.
@@ -217,11 +213,11 @@ async fn exhaust(pool: &Pool<Database>, seen: &Seen) {
 #[tokio::main(worker_threads = 4)]
 async fn main() -> Result<ExitCode, Box<dyn std::error::Error>> {
     let arguments: Vec<String> = env::args().collect();
-    let (server, restart, admin, shared) = match &arguments[..] {
-        [_, server, restart] => (server, restart, server, None),
-        [_, server, restart, admin] => (server, restart, admin, None),
-        [_, server, restart, admin, shared] => (server, restart, admin, Some(shared.parse()?)),
-        _ => return Err("arguments: CONNECTION RESTART [DIRECTLY [CONNECTIONS]]".into()),
+    let (server, restart, admin, is_shared) = match &arguments[..] {
+        [_, server, restart] => (server, restart, server, false),
+        [_, server, restart, admin] => (server, restart, admin, false),
+        [_, server, restart, admin, word] if word == "shared" => (server, restart, admin, true),
+        _ => return Err("arguments: CONNECTION RESTART [DIRECTLY [shared]]".into()),
     };
     let config = server.parse::<Config>()?.application_name("pool").clone();
     let admin = admin.parse::<Config>()?.application_name("admin").clone();
@@ -230,10 +226,7 @@ async fn main() -> Result<ExitCode, Box<dyn std::error::Error>> {
     setup.batch_execute(table).await?;
     drop(setup);
 
-    let seen = Arc::new(Seen {
-        shared,
-        ..Seen::default()
-    });
+    let seen = Arc::new(Seen::default());
     let log = Arc::new(Log::default());
     let pool = Pool::builder()
         .max_size(CONNECTIONS)
@@ -264,7 +257,7 @@ async fn main() -> Result<ExitCode, Box<dyn std::error::Error>> {
     watching.await?;
     ending.await?;
     exhaust(&pool, &seen).await;
-    judge(&pool, &admin, &seen, &log, took).await
+    judge(&pool, &admin, &seen, &log, took, is_shared).await
 }
 
 /// Compares the counts, and prints them.
@@ -274,6 +267,7 @@ async fn judge(
     seen: &Seen,
     log: &Log,
     took: Duration,
+    is_shared: bool,
 ) -> Result<ExitCode, Box<dyn std::error::Error>> {
     let is_balanced = balances(pool, log).await;
     let client = open(admin).await?;
@@ -313,10 +307,6 @@ async fn judge(
         read(&seen.connections)
     );
     println!(
-        "with those that were closed          {}",
-        read(&seen.processes)
-    );
-    println!(
         "samples                              {}",
         read(&seen.samples)
     );
@@ -353,7 +343,6 @@ async fn judge(
             "what else is there was in doubt",
             untold.is_subset(&in_doubt),
         ),
-        ("connections were within the limit", is_within(seen)),
         ("each get was answered in time", read(&seen.late) == 0),
         (
             "gets were started as the pool says",
@@ -369,6 +358,10 @@ async fn judge(
         ),
         ("all of it happened", all_happened(seen, figures)),
     ];
+    if !is_shared {
+        let is_within = read(&seen.connections) <= u64::from(CONNECTIONS);
+        checks.push(("connections were within the limit", is_within));
+    }
     checks.extend(is_balanced.map(|holds| ("connections are accounted for", holds)));
     for (name, holds) in &checks {
         println!("{} {name}", if *holds { "yes:" } else { "NO: " });
@@ -376,14 +369,6 @@ async fn judge(
     Ok(ExitCode::from(u8::from(
         checks.iter().any(|(_, holds)| !holds),
     )))
-}
-
-/// Whether the server had at most as many connections as the pool may have, or PgBouncer.
-fn is_within(seen: &Seen) -> bool {
-    match seen.shared {
-        None => seen.connections.load(SeqCst) <= u64::from(CONNECTIONS),
-        Some(limit) => seen.processes.load(SeqCst) <= limit,
-    }
 }
 
 /// Returns whether gets timed out and were cancelled, and connections ended in each way.
