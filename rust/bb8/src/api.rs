@@ -5,11 +5,13 @@ use crate::core::Checkout;
 use crate::errors::AddError;
 use crate::figures::State;
 use crate::managers::ManageConnection;
-use crate::pool::{Owner, Shared};
+use crate::pool::{Locked, Owner, Shared};
 use std::borrow::Cow;
 use std::fmt;
 use std::ops::{Deref, DerefMut};
 use std::sync::Arc;
+use std::time::Duration;
+use tokio::time::sleep;
 
 /// A handle to a pool. Its clones are handles to the same pool.
 ///
@@ -26,25 +28,11 @@ impl<M: ManageConnection> Pool<M> {
     }
 
     /// Opens a connection that the pool does not track: no limit on size or age applies to it. The
-    /// customizer prepares it as well.
+    /// customizer prepares it as well. The attempt has no time limit.
     ///
     /// # Errors
     ///
-    /// The error of the manager or the customizer. The attempt is not retried, and has no time
-    /// limit.
-    ///
-    /// # Examples
-    ///
-    /// ```
-    /// use bb8::{ManageConnection, Pool};
-    ///
-    /// async fn follow<M: ManageConnection>(pool: &Pool<M>) -> Result<(), M::Error> {
-    ///     let mut conn = pool.dedicated_connection().await?;
-    ///     subscribe(&mut conn).await;
-    ///     Ok(())
-    /// }
-    /// # async fn subscribe<C>(_: &mut C) {}
-    /// ```
+    /// The error of the manager or the customizer. The attempt is not retried.
     pub async fn dedicated_connection(&self) -> Result<M::Connection, M::Error> {
         self.shared().connect().await
     }
@@ -53,21 +41,20 @@ impl<M: ManageConnection> Pool<M> {
     ///
     /// # Errors
     ///
-    /// Each error returns the connection. It is broken, the pool is full or closed, or memory or
+    /// Each error returns the connection: it is broken, the pool is full or closed, or memory or
     /// numbers have run out.
     ///
     /// # Examples
     ///
     /// ```
-    /// use bb8::{AddError, ManageConnection, Pool};
-    ///
-    /// /// Returns the connection if the pool has no slot for it.
-    /// fn hand_in<C, M: ManageConnection<Connection = C>>(pool: &Pool<M>, conn: C) -> Option<C> {
-    ///     match pool.add(conn) {
-    ///         Ok(()) | Err(AddError::Broken(_)) => None,
-    ///         Err(AddError::NoCapacity(conn) | AddError::Withheld(conn)) => Some(conn),
-    ///     }
-    /// }
+    /// use bb8::{AddError, Pool};
+    /// # include!(concat!(env!("CARGO_MANIFEST_DIR"), "/tests/common/numbers.rs"));
+    /// # #[tokio::main] async fn main() {
+    /// let pool = Pool::builder().max_size(1).build(Numbers::default()).await.unwrap();
+    /// let conn = pool.dedicated_connection().await.unwrap();
+    /// assert_eq!(pool.add(conn), Ok(()));
+    /// assert_eq!(pool.add(7), Err(AddError::NoCapacity(7)));
+    /// # }
     /// ```
     pub fn add(&self, conn: M::Connection) -> Result<(), AddError<M::Connection>> {
         self.shared().add(conn)
@@ -85,27 +72,12 @@ impl<M: ManageConnection> Pool<M> {
     /// It is for changes that only new connections see: other credentials, a restored database,
     /// another server behind the same name.
     ///
-    /// If memory to list the idle connections is refused, nothing changes. In a closed pool it does
-    /// nothing.
+    /// If memory to list the idle connections is refused, or in a closed pool, it does nothing.
+    /// [`Statistics`](crate::Statistics) has an example.
     ///
     /// # Panics
     ///
     /// If the destructor of an idle connection panics. All are closed then, too.
-    ///
-    /// # Examples
-    ///
-    /// ```
-    /// # include!(concat!(env!("CARGO_MANIFEST_DIR"), "/tests/common/numbers.rs"));
-    /// # #[tokio::main] async fn main() {
-    /// let pool = bb8::Pool::builder().build(Numbers::default()).await.unwrap();
-    /// let conn = pool.get().await.unwrap();
-    /// pool.retire();
-    /// assert_eq!(*conn, 0);
-    /// drop(conn); // it is closed
-    /// assert_eq!(*pool.get().await.unwrap(), 1);
-    /// assert_eq!(pool.state().statistics.connections_closed_retired, 1);
-    /// # }
-    /// ```
     pub fn retire(&self) {
         self.shared().retire();
     }
@@ -130,18 +102,22 @@ impl<M: ManageConnection> Pool<M> {
     /// use bb8::{Pool, RunError};
     /// # include!(concat!(env!("CARGO_MANIFEST_DIR"), "/tests/common/numbers.rs"));
     /// # #[tokio::main] async fn main() {
-    /// let pool = Pool::builder().min_idle(1).build(Numbers::default()).await.unwrap();
+    /// let pool = Pool::builder().build(Numbers::default()).await.unwrap();
     /// let conn = pool.get_owned().await.unwrap();
     /// let request = tokio::spawn(async move { *conn });
-    /// pool.close().await; // it waits for the request
+    /// pool.close_now();
     /// assert!(pool.is_closed());
-    /// assert_eq!(pool.state().connections, 0);
     /// assert_eq!(pool.get().await.unwrap_err(), RunError::Closed);
+    /// pool.close().await; // it waits for the request
+    /// assert_eq!(pool.state().connections, 0);
     /// assert_eq!(request.await.unwrap(), 0);
     /// # }
     /// ```
     pub async fn close(&self) {
-        self.shared().close_and_wait().await;
+        while !self.shared().close() {
+            sleep(Duration::from_millis(1)).await;
+        }
+        self.shared().reached(Locked::is_empty).await;
     }
 
     /// Closes the pool as [`Pool::close`] does, but does not wait for its connections. It may be
@@ -153,37 +129,11 @@ impl<M: ManageConnection> Pool<M> {
     /// # Panics
     ///
     /// As [`Pool::close`].
-    ///
-    /// # Examples
-    ///
-    /// ```
-    /// # include!(concat!(env!("CARGO_MANIFEST_DIR"), "/tests/common/numbers.rs"));
-    /// # #[tokio::main] async fn main() {
-    /// let pool = bb8::Pool::builder().build(Numbers::default()).await.unwrap();
-    /// let conn = pool.get().await.unwrap();
-    /// pool.close_now();
-    /// assert_eq!(pool.state().connections, 1);
-    /// drop(conn);
-    /// assert_eq!(pool.state().connections, 0);
-    /// # }
-    /// ```
     pub fn close_now(&self) {
         self.shared().close();
     }
 
     /// Returns whether the pool was closed by [`Pool::close`] or [`Pool::close_now`].
-    ///
-    /// # Examples
-    ///
-    /// ```
-    /// # include!(concat!(env!("CARGO_MANIFEST_DIR"), "/tests/common/numbers.rs"));
-    /// # #[tokio::main] async fn main() {
-    /// let pool = bb8::Pool::builder().build(Numbers::default()).await.unwrap();
-    /// let other = pool.clone();
-    /// pool.close().await;
-    /// assert!(other.is_closed());
-    /// # }
-    /// ```
     pub fn is_closed(&self) -> bool {
         self.shared().is_closed()
     }
@@ -242,21 +192,7 @@ impl<'a, M: ManageConnection> PooledConnection<'a, M> {
     ///
     /// It counts in `connections_detached`, not as closed. No limit on size or age applies to it,
     /// and the customizer's `on_release` is not called. This is an associated function, so that it
-    /// hides no method of the connection.
-    ///
-    /// # Examples
-    ///
-    /// ```
-    /// use bb8::{Pool, PooledConnection};
-    /// # include!(concat!(env!("CARGO_MANIFEST_DIR"), "/tests/common/numbers.rs"));
-    /// # #[tokio::main] async fn main() {
-    /// let pool = Pool::builder().max_size(1).build(Numbers::default()).await.unwrap();
-    /// let conn = pool.get().await.unwrap();
-    /// let conn: u32 = PooledConnection::detach(conn);
-    /// assert_eq!((conn, pool.state().connections), (0, 0));
-    /// assert_eq!(*pool.get().await.unwrap(), 1);
-    /// # }
-    /// ```
+    /// hides no method of the connection. [`Statistics`](crate::Statistics) has an example.
     pub fn detach(mut this: Self) -> M::Connection {
         let checkout = this.checkout.take().expect(HELD);
         this.pool.shared.detach(checkout)

@@ -2,22 +2,24 @@
 
 use crate::boxed::Reserved;
 use crate::core::{fit, Key, Moment, OpenedAnswer};
-use crate::events::report;
+use crate::events::{report, RETIRED};
 use crate::managers::ManageConnection;
 use crate::pool::{Locked, Shared};
-use crate::returning::After;
+use crate::returning::{resume, wake_all};
 use futures_util::future::{select, Either};
 use std::future::{poll_fn, Future};
+use std::panic::catch_unwind;
 use std::pin::pin;
 use std::sync::Arc;
-use std::task::Waker;
+use std::thread;
 use std::time::Duration;
 use tokio::runtime::Handle;
-use tokio::time::{sleep, timeout, Instant};
+use tokio::task::{spawn_blocking, unconstrained};
+use tokio::time::{sleep, Instant, Sleep};
 
 /// A claimed approval, and the memory for its connection.
 pub(crate) struct Claimed<C> {
-    approval: Key,
+    pub(crate) approval: Key,
     reserved: Reserved<C>,
 }
 
@@ -36,54 +38,77 @@ pub(crate) struct Attempt<M: ManageConnection> {
 #[derive(Clone, Copy, PartialEq)]
 enum Calls {
     Nothing,
-    /// The manager or the customizer.
+    /// The manager, the customizer, or a subscriber that hears of the connection.
     Connect,
-    /// The error sink, or a subscriber of events.
+    /// The error sink, or a subscriber that hears of a failed try.
     Report,
 }
 
 /// Half of the first back-off.
 const SHORTEST: Duration = Duration::from_millis(200);
 
+/// The longest limit on a try that follows from others that took too long.
+const LONGEST_TRY: Duration = Duration::from_secs(30);
+
+/// Returns a timer, or `None` in a runtime without timers, where tokio panics.
+fn timer(span: Duration) -> Option<Sleep> {
+    catch_unwind(|| sleep(span)).ok()
+}
+
 impl<M: ManageConnection> Attempt<M> {
-    fn new(shared: &Arc<Shared<M>>, claimed: Claimed<M::Connection>) -> Self {
+    pub(crate) fn new(
+        shared: &Arc<Shared<M>>,
+        claimed: Claimed<M::Connection>,
+        wait: Duration,
+    ) -> Self {
         Attempt {
             shared: shared.clone(),
             claimed: Some(claimed),
-            wait: Duration::ZERO,
+            wait,
             calls: Calls::Nothing,
         }
     }
 
-    /// Claims an approval. Returns `None` if there is none, or if memory for the connection is
-    /// refused: then the approval is left to be claimed later.
-    pub(crate) fn claim(shared: &Arc<Shared<M>>) -> Option<Self> {
-        let Some(reserved) = Reserved::new() else {
-            shared.lock().unopened = true;
-            return None;
-        };
-        let at = shared.now();
-        let approval = shared.lock().claim(at, shared.settings.config.max_size)?;
-        Some(Attempt::new(shared, Claimed { approval, reserved }))
+    /// The approval for which it opens a connection.
+    pub(crate) fn approval(&self) -> Option<Key> {
+        Some(self.claimed.as_ref()?.approval)
     }
 
-    /// Takes over an attempt that was cut off.
-    pub(crate) fn again(shared: &Arc<Shared<M>>, claimed: Claimed<M::Connection>) -> Self {
-        shared.lock().pending += 1;
-        Attempt::new(shared, claimed)
+    /// Takes over an attempt that was cut off, or claims an approval. Returns `None` if there is
+    /// none, or if memory for the connection is refused: then the approval is left to be claimed
+    /// later.
+    pub(crate) fn claim(shared: &Arc<Shared<M>>) -> Option<Self> {
+        let max_size = shared.settings.config.max_size;
+        let cut_off = shared.lock().take_over(max_size);
+        let claimed = match cut_off {
+            Some(claimed) => claimed,
+            None => {
+                let Some(reserved) = Reserved::new() else {
+                    shared.lock().unopened = true;
+                    return None;
+                };
+                let at = shared.now();
+                let approval = shared.lock().claim(at, max_size)?;
+                Claimed { approval, reserved }
+            }
+        };
+        Some(Attempt::new(shared, claimed, Duration::ZERO))
     }
 
     /// Opens the connection. After an error it tries again as long as there is time, and then as
-    /// long as a get waits. Each try may take as long as the limit. Returns the last error, or
-    /// `None` if the last try took too long.
-    pub(crate) async fn run(mut self, limit: Option<Duration>) -> Result<(), Option<M::Error>> {
+    /// long as a get waits. Returns the last error, or `None` if the last try took too long.
+    pub(crate) async fn run(mut self, is_limited: bool) -> Result<(), Option<M::Error>> {
         let config = &self.shared.clone().settings.config;
         let start = Instant::now();
         loop {
-            if self.wait > Duration::ZERO {
-                sleep(self.wait).await;
+            let wait = self.wait;
+            if wait > Duration::ZERO {
+                match timer(wait) {
+                    Some(pause) => pause.await,
+                    None => drop(spawn_blocking(move || thread::sleep(wait)).await),
+                }
             }
-            let error = match self.connect(limit).await {
+            let error = match self.connect(is_limited).await {
                 Ok(conn) => {
                     self.enter(conn);
                     return Ok(());
@@ -104,32 +129,51 @@ impl<M: ManageConnection> Attempt<M> {
         }
     }
 
-    /// Makes one try. The error is `None` if it took too long. Without a limit it needs no timer.
-    async fn connect(
-        &mut self,
-        limit: Option<Duration>,
-    ) -> Result<M::Connection, Option<M::Error>> {
+    /// Makes one try. The error is `None` if it took too long. Without a limit it needs no timer,
+    /// and without timers it has no limit.
+    async fn connect(&mut self, is_limited: bool) -> Result<M::Connection, Option<M::Error>> {
         let shared = self.shared.clone();
-        let mut connecting = pin!(shared.connect());
-        let connected = poll_fn(|cx| {
+        let config = &shared.settings.config;
+        let learned = || config.connection_timeout.max(shared.lock().learned_limit);
+        let limit = config.connect_timeout.unwrap_or_else(learned);
+        let timer = is_limited.then(|| timer(limit)).flatten();
+        let start = Instant::now();
+        let connected = {
+            let mut connecting = pin!(shared.connect());
+            let connected = poll_fn(|cx| {
+                self.calls = Calls::Connect;
+                let connected = connecting.as_mut().poll(cx);
+                self.calls = Calls::Nothing;
+                connected.map_err(Some)
+            });
+            let connected = match timer {
+                // The timer fires, too, if connecting uses up the budget of the task.
+                Some(timer) => match select(connected, pin!(unconstrained(timer))).await {
+                    Either::Left((connected, _)) => connected,
+                    Either::Right(_) => Err(None),
+                },
+                None => connected.await,
+            };
+            // The drop of the future that connects may panic, too.
             self.calls = Calls::Connect;
-            let connected = connecting.as_mut().poll(cx);
-            self.calls = Calls::Nothing;
-            connected.map_err(Some)
-        });
-        match limit {
-            Some(limit) => timeout(limit, connected).await.unwrap_or(Err(None)),
-            None => connected.await,
+            connected
+        };
+        self.calls = Calls::Nothing;
+        let is_quick = start.elapsed() <= config.connection_timeout;
+        let learned = &mut shared.lock().learned_limit;
+        match &connected {
+            Err(None) => *learned = LONGEST_TRY.min(limit * 2).max(*learned),
+            Ok(_) if is_quick => *learned = Duration::ZERO,
+            _ => {}
         }
+        connected
     }
 
     /// As `run`, in a task of its own: it ends when the pool is closed, and reports the last error.
     pub(crate) async fn run_alone(self) {
         let shared = self.shared.clone();
-        let config = &shared.settings.config;
-        let limit = config.connect_timeout.or(Some(config.connection_timeout));
         let closed = pin!(shared.reached(|locked| locked.is_closed()));
-        let run = pin!(self.run(limit));
+        let run = pin!(self.run(true));
         if let Either::Right((Err(error), _)) = select(closed, run).await {
             shared.forward(error);
         }
@@ -152,37 +196,25 @@ impl<M: ManageConnection> Attempt<M> {
         let mut locked = self.shared.lock();
         locked.give_back(at, approval);
         let granted = locked.core.ask(Moment(at)).count;
-        let approval = match granted {
-            0 => None,
-            _ => locked.claim(at, self.shared.settings.config.max_size),
-        };
+        let max_size = self.shared.settings.config.max_size;
+        let approval = (granted > 0).then(|| locked.claim(at, max_size)).flatten();
+        // `ask` counts approvals that are left to be opened.
+        let due = granted > 1 || locked.unopened;
         drop(locked);
         self.shared.closing.notify_waiters();
         self.claimed = approval.map(|approval| Claimed { approval, reserved });
-        if granted > 1 {
+        if due {
             self.shared.open();
         }
         self.claimed.is_some()
     }
 
-    /// Goes on in a task of its own, after a panic.
-    fn respawn(&mut self) {
-        let Some(claimed) = self.claimed.take() else {
-            return;
-        };
-        let mut next = Attempt::new(&self.shared, claimed);
-        next.wait = self.wait;
-        // Outside of a runtime it is dropped, and left to the next one.
-        if let Ok(runtime) = Handle::try_current() {
-            runtime.spawn(next.run_alone());
-        }
-    }
-
     /// Enters the connection into the pool. If it was retired before it was opened, or no handle is
     /// left, the pool closes it and opens others for waiting gets and for `min_idle`.
     fn enter(&mut self, conn: M::Connection) {
-        self.calls = Calls::Report;
+        self.calls = Calls::Connect;
         report!(debug, self.shared, "connection opened");
+        self.calls = Calls::Nothing;
         let Some(Claimed { approval, reserved }) = self.claimed.take() else {
             return;
         };
@@ -196,12 +228,10 @@ impl<M: ManageConnection> Attempt<M> {
                 self.shared.entered(locked, at, approval, end, notified);
             }
             OpenedAnswer::Late(closed) => {
-                let after = After {
-                    closed,
-                    grants: locked.ask_anew(at),
-                    notified: None,
-                };
-                self.shared.settle(locked, at, Some(after));
+                let filled = locked.core.fill(Moment(at), false).count;
+                let granted = filled + locked.core.ask(Moment(at)).count;
+                self.shared
+                    .follow(locked, at, (closed.map(|it| (it, RETIRED)), granted, None));
             }
         }
     }
@@ -216,9 +246,14 @@ impl<M: ManageConnection> Drop for Attempt<M> {
             self.shared.lock().counts.failed += 1;
         }
         // Code that panics is not called again for the same approval.
-        if self.goes_on() {
+        self.goes_on();
+        if let Some(claimed) = self.claimed.take() {
             self.back_off();
-            self.respawn();
+            let next = Attempt::new(&self.shared, claimed, self.wait);
+            // Outside of a runtime it is dropped, and left to the next one.
+            if let Ok(runtime) = Handle::try_current() {
+                runtime.spawn(next.run_alone());
+            }
         }
     }
 }
@@ -228,13 +263,6 @@ impl<C> Locked<C> {
     fn give_back(&mut self, at: u64, approval: Key) {
         self.pending -= 1;
         fit(self.core.failed(Moment(at), approval));
-    }
-
-    /// Requests connections for waiting gets and for `min_idle`, after an attempt without a
-    /// connection. Returns whether some are to be opened. In a closed pool none are.
-    fn ask_anew(&mut self, at: u64) -> bool {
-        let filled = self.core.fill(Moment(at), false).count;
-        filled + self.core.ask(Moment(at)).count > 0
     }
 }
 
@@ -256,6 +284,6 @@ impl<M: ManageConnection> Shared<M> {
         locked.unopened = true;
         let wakers = locked.waiters.wakers();
         drop(locked);
-        wakers.into_iter().for_each(Waker::wake);
+        resume(wake_all(wakers));
     }
 }

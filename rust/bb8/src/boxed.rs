@@ -46,13 +46,11 @@ impl<C> Reserved<C> {
 pub(crate) struct Boxed<C>(Box<[Stored<C>; 1]>, PhantomData<C>);
 
 impl<C> Boxed<C> {
-    /// Moves the connection out.
     pub(crate) fn into_inner(self) -> C {
         let [stored] = *self.0;
         stored.conn
     }
 
-    /// Returns the moment from which on it is too old.
     pub(crate) fn end(&self) -> u64 {
         self.0[0].end
     }

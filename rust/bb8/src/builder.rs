@@ -32,7 +32,7 @@ pub struct Config {
     pub queue_strategy: QueueStrategy,
     /// How long a get waits before it is handed a connection directly.
     pub fair_after: Option<Duration>,
-    /// How long one connection attempt may take: `connection_timeout` if `None`.
+    /// How long one connection attempt may take. `None` leaves it to the pool.
     pub connect_timeout: Option<Duration>,
     /// How long a check may take.
     pub test_timeout: Option<Duration>,
@@ -71,8 +71,46 @@ pub(crate) enum Checks {
 /// The longest time of a timer, 30 years: a clock may not represent the end of a longer one.
 pub(crate) const LONGEST: Duration = Duration::from_secs(30 * 365 * 24 * 60 * 60);
 
-/// Builds a pool from settings and a manager. Each setter names its default. A timeout above 30
-/// years counts as 30 years.
+/// Builds a pool from settings and a manager. Each setter names its default. A timeout or reaper
+/// rate above 30 years counts as 30 years.
+///
+/// # Examples
+///
+/// ```
+/// use bb8::{ErrorSink, Pool};
+/// use std::time::Duration;
+/// # include!(concat!(env!("CARGO_MANIFEST_DIR"), "/tests/common/silent.rs"));
+///
+/// #[derive(Clone, Debug)]
+/// struct Log;
+///
+/// impl<E: std::fmt::Debug + 'static> ErrorSink<E> for Log {
+///     fn sink(&self, error: E) {
+///         eprintln!("the pool: {error:?}");
+///     }
+///
+///     fn boxed_clone(&self) -> Box<dyn ErrorSink<E>> {
+///         Box::new(self.clone())
+///     }
+/// }
+///
+/// # #[tokio::main] async fn main() {
+/// // Over a server that does not accept connections, and one that does not answer checks.
+/// for server in [Silent::Connect, Silent::Check] {
+///     let pool = Pool::builder()
+///         .name("orders")
+///         .error_sink(Box::new(Log))
+///         .slow_get_threshold(Duration::from_millis(100))
+///         .max_lifetime_jitter(0.2) // each connection lives for 24 to 30 minutes
+///         .connect_timeout(Duration::from_millis(20))
+///         .test_timeout(Duration::from_millis(20))
+///         .build_unchecked(server);
+///     assert!(pool.get_timeout(Duration::from_millis(50)).await.is_err());
+///     let counts = pool.state().statistics;
+///     assert!(counts.connections_failed + counts.checks_timed_out > 0);
+/// }
+/// # }
+/// ```
 #[derive(Debug)]
 #[must_use]
 pub struct Builder<M: ManageConnection> {
@@ -112,11 +150,12 @@ impl<M: ManageConnection> Default for Builder<M> {
     }
 }
 
-/// Panics if a limit is zero.
+/// Returns a limit. Panics if it is zero.
 #[track_caller]
-fn assert_above_zero(limit: Option<Duration>, name: &str) {
+fn above_zero(limit: Option<Duration>, name: &str) -> Option<Duration> {
     let is_zero = limit == Some(Duration::ZERO);
     assert!(!is_zero, "{name} must be greater than zero!");
+    limit
 }
 
 /// Returns a random number from 0 to 1: the standard library seeds its hashers at random.
@@ -197,13 +236,12 @@ impl<M: ManageConnection> Builder<M> {
     /// # Examples
     ///
     /// ```
-    /// use std::time::Duration;
-    /// # include!(concat!(env!("CARGO_MANIFEST_DIR"), "/tests/common/numbers.rs"));
+    /// # include!(concat!(env!("CARGO_MANIFEST_DIR"), "/tests/common/silent.rs"));
     /// # #[tokio::main] async fn main() {
-    /// let builder = bb8::Pool::builder().test_on_check_out_after(Duration::from_millis(250));
-    /// let pool = builder.build(Numbers::default()).await.unwrap();
-    /// drop(pool.get().await.unwrap());
-    /// // The connection was returned just now, so it is not checked.
+    /// let builder = bb8::Pool::builder();
+    /// let builder = builder.test_on_check_out_after(std::time::Duration::from_secs(60));
+    /// // The connection was opened just now, so the server need not answer a check.
+    /// let pool = builder.build(Silent::Check).await.unwrap();
     /// assert!(pool.get().await.is_ok());
     /// # }
     /// ```
@@ -216,8 +254,7 @@ impl<M: ManageConnection> Builder<M> {
     /// is closed by the next reap, a checked-out one when it is returned. See also
     /// [`Builder::max_lifetime_jitter`]. Panics if it is zero.
     pub fn max_lifetime(mut self, max_lifetime: impl Into<Option<Duration>>) -> Self {
-        self.config.max_lifetime = max_lifetime.into();
-        assert_above_zero(self.config.max_lifetime, "max_lifetime");
+        self.config.max_lifetime = above_zero(max_lifetime.into(), "max_lifetime");
         self
     }
 
@@ -226,23 +263,9 @@ impl<M: ManageConnection> Builder<M> {
     /// those that were opened together are not all replaced together. Without a `max_lifetime` it
     /// does nothing. Panics if it is below 0 or above 1.
     ///
-    /// The reaper closes each idle connection at its own end, which counts in
-    /// `connections_closed_max_lifetime`. A checked-out one past its end is closed when its guard
-    /// is dropped, and counts in `connections_closed_broken`. One that a get takes out before the
-    /// reaper runs counts in `connections_closed_invalid`. Each get and each return reads the clock
-    /// once more.
-    ///
-    /// # Examples
-    ///
-    /// ```
-    /// # include!(concat!(env!("CARGO_MANIFEST_DIR"), "/tests/common/numbers.rs"));
-    /// # #[tokio::main] async fn main() {
-    /// // Each connection lives for 24 to 30 minutes.
-    /// let builder = bb8::Pool::builder().max_lifetime_jitter(0.2);
-    /// let pool = builder.build(Numbers::default()).await.unwrap();
-    /// assert_eq!(pool.config().max_lifetime_jitter, 0.2);
-    /// # }
-    /// ```
+    /// The reaper closes each idle connection at its own end. One past its end is also closed when
+    /// its guard is dropped, or when a get takes it out: [`Statistics`](crate::Statistics) counts
+    /// these apart. Each get and each return reads the clock once more.
     pub fn max_lifetime_jitter(mut self, share: f64) -> Self {
         let is_share = (0.0..=1.0).contains(&share);
         assert!(is_share, "max_lifetime_jitter must be from 0 to 1!");
@@ -253,46 +276,33 @@ impl<M: ManageConnection> Builder<M> {
     /// Sets how long a connection may be idle: the next reap after that closes it. The default is
     /// 10 minutes. `min_idle` idle connections are kept. Panics if it is zero.
     pub fn idle_timeout(mut self, idle_timeout: impl Into<Option<Duration>>) -> Self {
-        self.config.idle_timeout = idle_timeout.into();
-        assert_above_zero(self.config.idle_timeout, "idle_timeout");
+        self.config.idle_timeout = above_zero(idle_timeout.into(), "idle_timeout");
         self
     }
 
-    /// Sets how long a get may take, for how long a failed connection attempt is retried, and,
-    /// without a `connect_timeout`, how long one attempt may take: if connecting takes longer, no
-    /// connection is ever opened. The default is 30 seconds. Panics if it is zero.
+    /// Sets how long a get may take, and for how long a failed connection attempt is retried. It is
+    /// the default of [`Builder::connect_timeout`], too. The default is 30 seconds. Panics if it is
+    /// zero.
     pub fn connection_timeout(mut self, connection_timeout: Duration) -> Self {
-        let is_zero = connection_timeout == Duration::ZERO;
-        assert!(!is_zero, "connection_timeout must be non-zero");
+        let has_time = connection_timeout > Duration::ZERO;
+        assert!(has_time, "connection_timeout must be non-zero");
         self.config.connection_timeout = connection_timeout;
         self
     }
 
-    /// Sets how long one connection attempt may take. The default is as long as
-    /// `connection_timeout`. An attempt that takes longer is dropped, counts as failed, and is
-    /// retried if [`Builder::retry_connection`] is set. So a server that accepts connections and
-    /// never replies does not hold the slots of the pool. Panics if it is zero.
+    /// Sets how long one connection attempt may take. An attempt that takes longer is dropped,
+    /// counts as failed, and is retried if [`Builder::retry_connection`] is set. So a server that
+    /// accepts connections and never replies does not hold the slots of the pool. Panics if it is
+    /// zero.
+    ///
+    /// By default an attempt may take as long as `connection_timeout`. After one that was dropped
+    /// the next may take twice as long, up to 30 seconds, until a connection is opened within
+    /// `connection_timeout`. So a server that takes longer than a get may wait is reached, too.
     ///
     /// Exceptions: [`Builder::build`] waits for its first connections without this limit, as it has
     /// no error for it; and [`Pool::dedicated_connection`] has none.
-    ///
-    /// # Examples
-    ///
-    /// ```
-    /// use std::time::Duration;
-    /// # include!(concat!(env!("CARGO_MANIFEST_DIR"), "/tests/common/silent.rs"));
-    /// # #[tokio::main] async fn main() {
-    /// // Over a server that accepts connections and never replies.
-    /// let pool = bb8::Pool::builder()
-    ///     .connect_timeout(Duration::from_millis(20))
-    ///     .build_unchecked(Silent::Connect);
-    /// assert!(pool.get_timeout(Duration::from_millis(50)).await.is_err());
-    /// assert!(pool.state().statistics.connections_failed > 0);
-    /// # }
-    /// ```
     pub fn connect_timeout(mut self, connect_timeout: impl Into<Option<Duration>>) -> Self {
-        self.config.connect_timeout = connect_timeout.into();
-        assert_above_zero(self.config.connect_timeout, "connect_timeout");
+        self.config.connect_timeout = above_zero(connect_timeout.into(), "connect_timeout");
         self
     }
 
@@ -302,24 +312,8 @@ impl<M: ManageConnection> Builder<M> {
     ///
     /// Set it to some hundred milliseconds if connections may die without a reset, as in a
     /// failover. Without it, a get whose check hangs times out.
-    ///
-    /// # Examples
-    ///
-    /// ```
-    /// use std::time::Duration;
-    /// # include!(concat!(env!("CARGO_MANIFEST_DIR"), "/tests/common/silent.rs"));
-    /// # #[tokio::main] async fn main() {
-    /// // Over a server that does not answer the check.
-    /// let pool = bb8::Pool::builder()
-    ///     .test_timeout(Duration::from_millis(20))
-    ///     .build_unchecked(Silent::Check);
-    /// assert!(pool.get_timeout(Duration::from_millis(50)).await.is_err());
-    /// assert!(pool.state().statistics.checks_timed_out > 0);
-    /// # }
-    /// ```
     pub fn test_timeout(mut self, test_timeout: impl Into<Option<Duration>>) -> Self {
-        self.config.test_timeout = test_timeout.into();
-        assert_above_zero(self.config.test_timeout, "test_timeout");
+        self.config.test_timeout = above_zero(test_timeout.into(), "test_timeout");
         self
     }
 
@@ -335,39 +329,14 @@ impl<M: ManageConnection> Builder<M> {
     }
 
     /// Sets the sink for errors that no caller sees. By default they are ignored.
-    ///
-    /// # Examples
-    ///
-    /// ```
-    /// use bb8::{Builder, ErrorSink, ManageConnection, Pool};
-    /// use std::fmt::Debug;
-    ///
-    /// #[derive(Clone, Debug)]
-    /// struct Log;
-    ///
-    /// impl<E: Debug + 'static> ErrorSink<E> for Log {
-    ///     fn sink(&self, error: E) {
-    ///         eprintln!("the pool: {error:?}");
-    ///     }
-    ///
-    ///     fn boxed_clone(&self) -> Box<dyn ErrorSink<E>> {
-    ///         Box::new(self.clone())
-    ///     }
-    /// }
-    ///
-    /// fn logged<M: ManageConnection>() -> Builder<M> {
-    ///     Pool::builder().error_sink(Box::new(Log))
-    /// }
-    /// ```
     pub fn error_sink(mut self, error_sink: Box<dyn ErrorSink<M::Error>>) -> Self {
         self.error_sink = error_sink;
         self
     }
 
     /// Sets how often the pool closes connections that are too old, or idle for too long. The
-    /// default is every 30 seconds; a rate above 30 years counts as 30 years. A pool without these
-    /// limits has no reaper. The reaper ends with the runtime in which the pool was built. If the
-    /// rate is zero, building a pool with a reaper panics.
+    /// default is every 30 seconds. A pool without these limits has no reaper. The reaper ends with
+    /// the runtime in which the pool was built. At zero, building a pool with a reaper panics.
     pub fn reaper_rate(mut self, reaper_rate: Duration) -> Self {
         self.config.reaper_rate = reaper_rate;
         self
@@ -399,26 +368,16 @@ impl<M: ManageConnection> Builder<M> {
     /// being polled, it keeps the connection, even from the task that owns it:
     ///
     /// ```
-    /// # use bb8::{Pool, RunError};
     /// # use std::time::Duration;
     /// # include!(concat!(env!("CARGO_MANIFEST_DIR"), "/tests/common/numbers.rs"));
     /// # #[tokio::main(flavor = "current_thread")] async fn main() {
-    /// let pool = Pool::builder()
-    ///     .max_size(1)
-    ///     .fair_after(Duration::ZERO)
-    ///     .connection_timeout(Duration::from_millis(50))
-    ///     .build(Numbers::default())
-    ///     .await
-    ///     .unwrap();
+    /// let builder = bb8::Pool::builder().max_size(1).fair_after(Duration::ZERO);
+    /// let pool = builder.build(Numbers::default()).await.unwrap();
     /// let conn = pool.get().await.unwrap();
     /// let mut kept = Box::pin(pool.get());
-    /// tokio::select! {
-    ///     biased;
-    ///     _ = &mut kept => unreachable!("the connection is out"),
-    ///     () = async {} => {}
-    /// }
+    /// assert!(futures_util::poll!(&mut kept).is_pending());
     /// drop(conn); // it is handed to `kept`
-    /// assert_eq!(pool.get().await.unwrap_err(), RunError::TimedOut);
+    /// assert!(pool.get_timeout(Duration::from_millis(50)).await.is_err());
     /// assert!(kept.await.is_ok());
     /// # }
     /// ```
@@ -430,33 +389,6 @@ impl<M: ManageConnection> Builder<M> {
 
     /// Sets the customizer, which prepares each opened connection and inspects each returned one.
     /// By default there is none.
-    ///
-    /// # Examples
-    ///
-    /// ```
-    /// use bb8::{Builder, CustomizeConnection, ManageConnection, Pool};
-    /// use std::future::Future;
-    /// use std::pin::Pin;
-    /// # #[derive(Debug)] struct Client;
-    /// # impl Client { async fn ask<E>(&mut self, _: &str) -> Result<(), E> { Ok(()) } }
-    ///
-    /// /// Sets the time zone of each connection.
-    /// #[derive(Debug)]
-    /// struct InUtc;
-    ///
-    /// impl<E: Send + 'static> CustomizeConnection<Client, E> for InUtc {
-    ///     fn on_acquire<'a>(
-    ///         &'a self,
-    ///         conn: &'a mut Client,
-    ///     ) -> Pin<Box<dyn Future<Output = Result<(), E>> + Send + 'a>> {
-    ///         Box::pin(async move { conn.ask("SET TIME ZONE 'UTC'").await })
-    ///     }
-    /// }
-    ///
-    /// fn prepared<M: ManageConnection<Connection = Client>>() -> Builder<M> {
-    ///     Pool::builder().connection_customizer(Box::new(InUtc))
-    /// }
-    /// ```
     pub fn connection_customizer(
         mut self,
         connection_customizer: Box<dyn CustomizeConnection<M::Connection, M::Error>>,
@@ -467,14 +399,6 @@ impl<M: ManageConnection> Builder<M> {
 
     /// Sets the name of the pool in its `Debug` output, and in its events if the cargo feature
     /// `tracing` is on. By default it has none, and events call it `bb8`.
-    ///
-    /// # Examples
-    ///
-    /// ```
-    /// fn orders<M: bb8::ManageConnection>() -> bb8::Builder<M> {
-    ///     bb8::Pool::builder().name("orders")
-    /// }
-    /// ```
     pub fn name(mut self, name: impl Into<String>) -> Self {
         self.name = Some(name.into());
         self
@@ -483,14 +407,6 @@ impl<M: ManageConnection> Builder<M> {
     /// Sets the time above which a `get` that waited or checked is reported by `tracing`, with the
     /// pool's state, once it is served. Timed-out and cancelled gets are not reported. The default
     /// is two seconds. Without the cargo feature `tracing` it does nothing.
-    ///
-    /// # Examples
-    ///
-    /// ```
-    /// fn watched<M: bb8::ManageConnection>() -> bb8::Builder<M> {
-    ///     bb8::Pool::builder().slow_get_threshold(std::time::Duration::from_millis(100))
-    /// }
-    /// ```
     pub fn slow_get_threshold(mut self, threshold: impl Into<Option<Duration>>) -> Self {
         self.slow_get_threshold = threshold.into();
         self
@@ -500,10 +416,8 @@ impl<M: ManageConnection> Builder<M> {
     fn make(mut self, manager: M) -> Pool<M> {
         let config = &mut self.config;
         let limits = [&mut config.connect_timeout, &mut config.test_timeout];
-        for span in limits.into_iter().flatten() {
-            *span = LONGEST.min(*span);
-        }
-        for span in [&mut config.connection_timeout, &mut config.reaper_rate] {
+        let spans = [&mut config.connection_timeout, &mut config.reaper_rate];
+        for span in limits.into_iter().flatten().chain(spans) {
             *span = LONGEST.min(*span);
         }
         assert!(

@@ -3,7 +3,7 @@
 pub(crate) use bb8_core::api::Moment;
 pub(crate) use bb8_core::internals::{
     AddAnswer, AtOnce, CheckedErrAnswer, CheckedOkAnswer, ClaimAnswer, ClosedList, DetachAnswer,
-    EvictAnswer, GetKey, GiveUpAnswer, Grant, Key, OpenedAnswer, PutBackAnswer, ReapAnswer, Reason,
+    EvictAnswer, GetKey, GiveUpAnswer, Key, OpenedAnswer, PutBackAnswer, ReapAnswer, Reason,
     Started, TryAnswer,
 };
 
@@ -53,13 +53,8 @@ pub(crate) fn core<C>(settings: &Config) -> Core<C> {
 
 /// Returns the result of a step that fits. Only a bug in this crate makes one that does not: it
 /// names a get or a connection that the core does not have in that state, and changes nothing.
-// Inlining saves 3 instructions of a pair.
-#[inline]
 pub(crate) fn fit<A, E>(result: Result<A, E>) -> A {
-    match result {
-        Ok(answer) => answer,
-        Err(_) => unfit(),
-    }
+    result.unwrap_or_else(|_| unfit())
 }
 
 pub(crate) fn unfit() -> ! {

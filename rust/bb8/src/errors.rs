@@ -3,22 +3,7 @@
 use std::error::Error;
 use std::fmt;
 
-/// The error of a get. A later version may add cases, so a `match` needs a `_`.
-///
-/// # Examples
-///
-/// ```
-/// use bb8::RunError;
-///
-/// /// The status of a response without a connection.
-/// fn status<E>(error: &RunError<E>) -> u16 {
-///     match error {
-///         RunError::TimedOut => 504,
-///         _ => 503,
-///     }
-/// }
-/// assert_eq!(status::<()>(&RunError::Closed), 503);
-/// ```
+/// The error of a get. A later version may add cases, so a `match` needs a `_`:
 ///
 /// ```compile_fail
 /// # use bb8::RunError;

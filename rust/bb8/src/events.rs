@@ -27,7 +27,6 @@ macro_rules! report {
 pub(crate) use report;
 
 impl<M: ManageConnection> Shared<M> {
-    /// Returns the name of the pool in events.
     #[cfg(feature = "tracing")]
     pub(crate) fn name(&self) -> &str {
         self.settings.name.as_deref().unwrap_or("bb8")

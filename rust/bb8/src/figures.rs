@@ -36,7 +36,9 @@ pub struct State {
 /// let conn = pool.get().await.unwrap(); // opens a connection
 /// assert_eq!(PooledConnection::detach(conn), 0);
 /// pool.add(7).unwrap();
-/// pool.retire(); // closes the added one, which is idle
+/// let conn = pool.get().await.unwrap(); // checks out the added one
+/// pool.retire();
+/// drop(conn); // closes it
 ///
 /// let state = pool.state();
 /// let figures = state.statistics;
@@ -58,10 +60,9 @@ pub struct Statistics {
     pub get_waited: u64,
     /// `get` calls that timed out.
     pub get_timed_out: u64,
-    /// `get` calls whose future was dropped before it resolved, and those that returned `Closed` or
-    /// `Memory` after they had begun. A [`Pool::try_get`](crate::Pool::try_get) counts here if all
-    /// that it checked failed. A `timeout(d, pool.get())` counts here, a
-    /// [`Pool::get_timeout`](crate::Pool::get_timeout) as timed out.
+    /// `get` calls whose future was dropped before it resolved, those that returned `Closed` or
+    /// `Memory` after they had begun, and each [`Pool::try_get`](crate::Pool::try_get) if all that
+    /// it checked failed.
     #[doc(alias = "cancellation")]
     pub get_cancelled: u64,
     /// Total wait of served and timed-out gets, each from its first wait to its end, in whole

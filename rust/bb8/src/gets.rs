@@ -30,18 +30,20 @@ impl<M: ManageConnection> Pool<M> {
     /// # Examples
     ///
     /// ```
+    /// use bb8::{Pool, RunError};
     /// use std::time::Duration;
-    /// use tokio::time::timeout;
     /// # include!(concat!(env!("CARGO_MANIFEST_DIR"), "/tests/common/numbers.rs"));
     /// # #[tokio::main] async fn main() {
-    /// let pool = bb8::Pool::builder().max_size(1).build(Numbers::default()).await.unwrap();
+    /// let pool = Pool::builder().max_size(1).build(Numbers::default()).await.unwrap();
     /// let conn = pool.get().await.unwrap();
     /// assert_eq!(*conn, 0);
-    /// // The only connection is checked out, so this get waits until it is cancelled.
-    /// assert!(timeout(Duration::from_millis(20), pool.get()).await.is_err());
-    /// assert_eq!(pool.state().statistics.get_cancelled, 1);
-    /// drop(conn);
-    /// assert_eq!(*pool.get().await.unwrap(), 0);
+    /// // The only connection is checked out.
+    /// assert!(pool.try_get().await.unwrap().is_none());
+    /// let limit = Duration::from_millis(20);
+    /// assert_eq!(pool.get_timeout(limit).await.unwrap_err(), RunError::TimedOut);
+    /// assert!(tokio::time::timeout(limit, pool.get()).await.is_err());
+    /// let statistics = pool.state().statistics;
+    /// assert_eq!((statistics.get_timed_out, statistics.get_cancelled), (1, 1));
     /// # }
     /// ```
     #[doc(alias("cancellation", "queue", "starvation"))]
@@ -59,16 +61,16 @@ impl<M: ManageConnection> Pool<M> {
     /// # Examples
     ///
     /// ```
-    /// use bb8::{ManageConnection, Pool, RunError};
-    ///
-    /// async fn start<M: ManageConnection>(pool: &Pool<M>) -> Result<(), RunError<M::Error>> {
-    ///     let mut conn = pool.get_owned().await?;
-    ///     tokio::spawn(async move {
-    ///         work(&mut conn).await;
-    ///     });
-    ///     Ok(())
-    /// }
-    /// # async fn work<C>(_: &mut C) {}
+    /// # include!(concat!(env!("CARGO_MANIFEST_DIR"), "/tests/common/numbers.rs"));
+    /// # #[tokio::main] async fn main() {
+    /// let pool = bb8::Pool::builder().build(Numbers::default()).await.unwrap();
+    /// let first = pool.get_owned().await.unwrap();
+    /// let second = pool.get_owned_timeout(std::time::Duration::from_secs(5)).await.unwrap();
+    /// let none = pool.try_get_owned().await.unwrap();
+    /// assert!(none.is_none());
+    /// drop(pool);
+    /// assert_eq!(tokio::spawn(async move { *first + *second }).await.unwrap(), 1);
+    /// # }
     /// ```
     pub async fn get_owned(&self) -> Result<PooledConnection<'static, M>, RunError<M::Error>> {
         Ok(self.get().await?.into_owned())
@@ -80,21 +82,6 @@ impl<M: ManageConnection> Pool<M> {
     ///
     /// A check that is cut off closes its connection, so a time shorter than a check takes costs
     /// connections: use [`Pool::try_get`] instead of a time of zero.
-    ///
-    /// # Examples
-    ///
-    /// ```
-    /// use bb8::{Pool, RunError};
-    /// use std::time::Duration;
-    /// # include!(concat!(env!("CARGO_MANIFEST_DIR"), "/tests/common/numbers.rs"));
-    /// # #[tokio::main] async fn main() {
-    /// let pool = Pool::builder().max_size(1).build(Numbers::default()).await.unwrap();
-    /// let _conn = pool.get().await.unwrap();
-    /// let late = pool.get_timeout(Duration::from_millis(20)).await;
-    /// assert_eq!(late.unwrap_err(), RunError::TimedOut);
-    /// assert_eq!(pool.state().statistics.get_timed_out, 1);
-    /// # }
-    /// ```
     pub async fn get_timeout(
         &self,
         timeout: Duration,
@@ -106,17 +93,6 @@ impl<M: ManageConnection> Pool<M> {
 
     /// As [`Pool::get_timeout`], with its errors, but the guard is a handle of the pool, as in
     /// [`Pool::get_owned`].
-    ///
-    /// # Examples
-    ///
-    /// ```
-    /// # include!(concat!(env!("CARGO_MANIFEST_DIR"), "/tests/common/numbers.rs"));
-    /// # #[tokio::main] async fn main() {
-    /// let pool = bb8::Pool::builder().build(Numbers::default()).await.unwrap();
-    /// let conn = pool.get_owned_timeout(std::time::Duration::from_secs(5)).await.unwrap();
-    /// assert_eq!(tokio::spawn(async move { *conn }).await.unwrap(), 0);
-    /// # }
-    /// ```
     pub async fn get_owned_timeout(
         &self,
         timeout: Duration,
@@ -142,19 +118,6 @@ impl<M: ManageConnection> Pool<M> {
     /// # Panics
     ///
     /// If a check is not ready at once outside a tokio runtime, or in one without timers.
-    ///
-    /// # Examples
-    ///
-    /// ```
-    /// # include!(concat!(env!("CARGO_MANIFEST_DIR"), "/tests/common/numbers.rs"));
-    /// # #[tokio::main] async fn main() {
-    /// let builder = bb8::Pool::builder().max_size(1).min_idle(1);
-    /// let pool = builder.build(Numbers::default()).await.unwrap();
-    /// let conn = pool.try_get().await.unwrap();
-    /// assert!(conn.is_some());
-    /// assert!(pool.try_get().await.unwrap().is_none());
-    /// # }
-    /// ```
     pub async fn try_get(&self) -> Result<Option<PooledConnection<'_, M>>, RunError<M::Error>> {
         let limit = |config: &Config| config.connection_timeout;
         self.checkout::<false, _>(limit, Ok).await
@@ -162,18 +125,6 @@ impl<M: ManageConnection> Pool<M> {
 
     /// As [`Pool::try_get`], with its errors, but the guard is a handle of the pool, as in
     /// [`Pool::get_owned`].
-    ///
-    /// # Examples
-    ///
-    /// ```
-    /// # include!(concat!(env!("CARGO_MANIFEST_DIR"), "/tests/common/numbers.rs"));
-    /// # #[tokio::main] async fn main() {
-    /// let builder = bb8::Pool::builder().min_idle(1);
-    /// let pool = builder.build(Numbers::default()).await.unwrap();
-    /// let conn = pool.try_get_owned().await.unwrap().unwrap();
-    /// assert_eq!(tokio::spawn(async move { *conn }).await.unwrap(), 0);
-    /// # }
-    /// ```
     pub async fn try_get_owned(
         &self,
     ) -> Result<Option<PooledConnection<'static, M>>, RunError<M::Error>> {

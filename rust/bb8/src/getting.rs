@@ -10,7 +10,7 @@ use crate::events::MAX_LIFETIME;
 use crate::lock::MutexGuard;
 use crate::managers::ManageConnection;
 use crate::pool::{Locked, Shared};
-use crate::returning::{gave_up, Fate, Step};
+use crate::returning::{Fate, Step};
 use crate::waiters::Handed;
 use std::future::{poll_fn, Future};
 use std::mem::{self, ManuallyDrop};
@@ -74,9 +74,9 @@ impl<M: ManageConnection> Pool<M> {
         let mut timer = pin!(None);
         let mut getting = Getting::new(shared);
         let tries = WAITS && shared.checks == Checks::All;
-        let mut next = tries.then(|| getting.try_at_once(0)).flatten();
-        let checkout = loop {
-            let tried = match next.take() {
+        let mut first = tries.then(|| getting.try_at_once(0)).flatten();
+        let (checkout, began) = loop {
+            let tried = match first.take() {
                 Some(tried) => tried,
                 None if WAITS => poll_fn(|cx| getting.try_in_time(cx, timer.as_mut(), limit)).await,
                 None => getting.try_idle().unwrap_or(Tried::NoneIdle),
@@ -85,7 +85,7 @@ impl<M: ManageConnection> Pool<M> {
                 Tried::Served => break getting.served(),
                 Tried::Taken => {}
                 Tried::TimedOut => match getting.time_out() {
-                    Some(checkout) => break checkout,
+                    Some(checkout) => break (checkout, getting.began),
                     None => return result(None),
                 },
                 Tried::NoneIdle | Tried::Refused if shared.is_closed() => {
@@ -100,8 +100,7 @@ impl<M: ManageConnection> Pool<M> {
                 Tried::Refused => return Err(RunError::Memory),
                 Tried::Exhausted => return Err(RunError::Exhausted),
             }
-            let by_age = shared.has_ends.then(|| getting.check_age()).flatten();
-            let passed = match by_age {
+            let passed = match shared.has_ends.then(|| getting.check_age()).flatten() {
                 Some(passed) => passed,
                 None => {
                     let checked = {
@@ -109,14 +108,18 @@ impl<M: ManageConnection> Pool<M> {
                         let check = pin!(shared.manager.is_valid(conn));
                         in_time(check, timer.as_mut(), &mut getting.began, limit, shared).await
                     };
-                    getting.conclude(checked, limit)
+                    let passed = matches!(checked, Some(Ok(())));
+                    if !passed {
+                        getting.check_failed(checked.and_then(Result::err), limit);
+                    }
+                    passed
                 }
             };
             if passed {
                 break getting.pass();
             }
             if getting.is_over(limit) {
-                next = Some(Tried::TimedOut);
+                first = Some(Tried::TimedOut);
                 continue;
             }
             if shared.settings.config.test_timeout.is_some() {
@@ -124,11 +127,13 @@ impl<M: ManageConnection> Pool<M> {
             }
             yield_now().await;
         };
-        result(Some(PooledConnection::new(&self.owner, checkout)))
+        let guard = PooledConnection::new(&self.owner, checkout);
+        // If a subscriber of events panics, the guard returns the connection.
+        shared.served(began);
+        result(Some(guard))
     }
 }
 
-/// The name of a check in events.
 const CHECK: &str = "check of a connection";
 const HOLDS: &str = "a get that checks holds a connection";
 
@@ -138,28 +143,25 @@ pub(crate) trait Limit: Fn(&Config) -> Duration + Copy {}
 impl<F: Fn(&Config) -> Duration + Copy> Limit for F {}
 
 /// Returns when a get has to end, or, if that is earlier, a check that begins now and has a limit.
-/// `None` if the clock cannot represent it.
 fn deadline(
     began: &mut Option<Instant>,
     limit: impl Limit,
     config: &Config,
     test_timeout: Option<Duration>,
-) -> Option<Instant> {
-    let began = *began.get_or_insert_with(Instant::now);
-    let get_ends = began.checked_add(limit(config));
-    let check_ends = test_timeout.and_then(|it| Instant::now().checked_add(it));
-    get_ends.into_iter().chain(check_ends).min()
+) -> Instant {
+    let get_ends = *began.get_or_insert_with(Instant::now) + limit(config);
+    test_timeout.map_or(get_ends, |it| get_ends.min(Instant::now() + it))
 }
 
 /// Returns the timer of a get. It is created here, when the get first has to wait.
 fn started(
     mut timer: Pin<&mut Option<Sleep>>,
-    deadline: impl FnOnce() -> Option<Instant>,
-) -> Option<Pin<&mut Sleep>> {
+    deadline: impl FnOnce() -> Instant,
+) -> Pin<&mut Sleep> {
     if timer.is_none() {
-        timer.set(Some(sleep_until(deadline()?)));
+        timer.set(Some(sleep_until(deadline())));
     }
-    timer.as_pin_mut()
+    timer.as_pin_mut().expect("the timer was set")
 }
 
 /// Resolves once the check does, or to `None` once its time is over. The check may use up the
@@ -172,21 +174,17 @@ fn in_time<'c, M: ManageConnection, T>(
     shared: &'c Shared<M>,
 ) -> impl Future<Output = Option<T>> + 'c {
     let mut is_first = true;
-    poll_fn(move |cx| match check.as_mut().poll(cx) {
-        Poll::Ready(checked) => Poll::Ready(Some(checked)),
-        Poll::Pending => {
-            let config = &shared.settings.config;
-            let test_timeout = config.test_timeout;
-            if mem::take(&mut is_first) && test_timeout.is_some() {
-                timer.set(None);
-            }
-            match started(timer.as_mut(), || {
-                deadline(began, limit, config, test_timeout)
-            }) {
-                Some(timer) => pin!(unconstrained(timer)).poll(cx).map(|()| None),
-                None => Poll::Pending,
-            }
+    poll_fn(move |cx| {
+        if let Poll::Ready(checked) = check.as_mut().poll(cx) {
+            return Poll::Ready(Some(checked));
         }
+        let config = &shared.settings.config;
+        let end = || deadline(began, limit, config, config.test_timeout);
+        if mem::take(&mut is_first) && config.test_timeout.is_some() {
+            timer.set(None);
+        }
+        let timer = started(timer.as_mut(), end);
+        pin!(unconstrained(timer)).poll(cx).map(|()| None)
     })
 }
 
@@ -207,7 +205,7 @@ impl<'a, M: ManageConnection> Getting<'a, M> {
 
     /// Begins and tries if a connection is idle. Such a get does not wait, so its waker does not
     /// matter, and its moment only decides whether the connection is checked.
-    // Inlining saves 25 instructions of a pair.
+    // Inlining saves 26 instructions of a pair.
     #[inline(always)]
     fn try_at_once(&mut self, at: u64) -> Option<Tried> {
         let mut locked = self.shared.lock();
@@ -249,10 +247,8 @@ impl<'a, M: ManageConnection> Getting<'a, M> {
             return Poll::Ready(tried);
         }
         let config = &self.shared.settings.config;
-        match started(timer, || deadline(&mut self.began, limit, config, None)) {
-            Some(timer) => timer.poll(cx).map(|()| Tried::TimedOut),
-            None => Poll::Pending,
-        }
+        let timer = started(timer, || deadline(&mut self.began, limit, config, None));
+        timer.poll(cx).map(|()| Tried::TimedOut)
     }
 
     /// Begins and tries. Returns `None` if the get waits.
@@ -300,7 +296,7 @@ impl<'a, M: ManageConnection> Getting<'a, M> {
     }
 
     /// Goes on after a try. Returns `None` if the get waits.
-    // Inlining saves 42 instructions of a pair.
+    // Inlining saves 43 instructions of a pair.
     #[inline(always)]
     fn tried(
         &mut self,
@@ -354,29 +350,30 @@ impl<'a, M: ManageConnection> Getting<'a, M> {
         (!self.shared.settings.config.test_on_check_out).then_some(true)
     }
 
-    /// Returns whether the check passed, and closes the connection if not. `checked` is `None` if
-    /// the check was cut off. Exception: if the get's own time is over, its end closes it.
-    fn conclude(&mut self, checked: Option<Result<(), M::Error>>, limit: impl Limit) -> bool {
-        match checked {
-            Some(Ok(())) => return true,
-            Some(Err(error)) => self.close(Some(error)),
-            None if self.is_over(limit) => {}
-            None => self.close(None),
+    /// Closes the connection, whose check failed with this error or, without one, was cut off.
+    /// Exception: if the get's own time is over, its end closes it.
+    fn check_failed(&mut self, error: Option<M::Error>, limit: impl Limit) {
+        if error.is_none() {
+            if self.is_over(limit) {
+                return;
+            }
+            self.shared.lock().counts.checks_timed_out += 1;
         }
-        false
+        self.shared.failed(CHECK, error.as_ref());
+        self.close_as("its check failed");
+        self.shared.forward(error);
     }
 
-    /// Ends a get that the core has served, and returns its connection.
-    fn served(self) -> Checkout<M::Connection> {
+    /// Ends a get that the core has served. Returns its connection, and when it began.
+    fn served(self) -> (Checkout<M::Connection>, Option<Instant>) {
         let mut ended = ManuallyDrop::new(self);
-        ended.shared.served(ended.began);
-        ended.held.take().expect(HOLDS)
+        (ended.held.take().expect(HOLDS), ended.began)
     }
 
-    /// Reports to the core that the check passed, and returns the connection.
-    // Inlining saves 38 instructions of a pair.
+    /// As `served`, and reports to the core that the check passed.
+    // Inlining saves 36 instructions of a pair.
     #[inline(always)]
-    fn pass(self) -> Checkout<M::Connection> {
+    fn pass(self) -> (Checkout<M::Connection>, Option<Instant>) {
         let mut ended = ManuallyDrop::new(self);
         let shared = ended.shared;
         // The moment only matters for how long the get waited.
@@ -388,11 +385,9 @@ impl<'a, M: ManageConnection> Getting<'a, M> {
         drop(locked);
         let CheckedOkAnswer::Served(key) = fit(passed);
         checkout.key = key;
-        shared.served(ended.began);
-        checkout
+        (checkout, ended.began)
     }
 
-    /// Returns whether the get's time is over.
     fn is_over(&mut self, limit: impl Limit) -> bool {
         let began = *self.began.get_or_insert_with(Instant::now);
         began.elapsed() >= limit(&self.shared.settings.config)
@@ -401,16 +396,6 @@ impl<'a, M: ManageConnection> Getting<'a, M> {
     /// Ends because its time is over, unless it was served since its last try.
     pub(crate) fn time_out(&mut self) -> Option<Checkout<M::Connection>> {
         self.end(Reason::TimedOut)
-    }
-
-    /// Closes the connection, whose check failed with this error, or took too long.
-    fn close(&mut self, error: Option<M::Error>) {
-        if error.is_none() {
-            self.shared.lock().counts.checks_timed_out += 1;
-        }
-        self.shared.failed(CHECK, error.as_ref());
-        self.close_as("its check failed");
-        self.shared.forward(error);
     }
 
     /// Closes the connection as one whose check failed.
@@ -424,7 +409,7 @@ impl<'a, M: ManageConnection> Getting<'a, M> {
 
     /// Ends without a connection, unless it was served since its last try. If that cuts off a
     /// check, the connection is closed.
-    // Inlining saves 19 instructions of a cancelled get.
+    // Inlining saves 18 instructions of a cancelled get.
     #[inline(always)]
     fn end(&mut self, reason: Reason) -> Option<Checkout<M::Connection>> {
         let mut fate = Fate::CutOff;
@@ -439,7 +424,8 @@ impl<'a, M: ManageConnection> Getting<'a, M> {
                 _removed = locked.waiters.remove(self.key);
                 self.stage = Stage::Ended;
                 let given_up = locked.core.give_up(Moment(at), self.key, reason, false);
-                self.shared.settle(locked, at, gave_up(fit(given_up)));
+                let notified = fit(given_up).notified();
+                self.shared.settle(locked, at, notified);
                 return None;
             };
             drop(locked);
@@ -466,7 +452,6 @@ impl<'a, M: ManageConnection> Getting<'a, M> {
     }
 }
 
-/// The result of a try in the core.
 type Answered<M> = TryAnswer<Held<<M as ManageConnection>::Connection>>;
 
 impl<M: ManageConnection> Drop for Getting<'_, M> {
@@ -476,7 +461,8 @@ impl<M: ManageConnection> Drop for Getting<'_, M> {
         }
         // If it was served meanwhile, its connection is returned.
         if let Some(checkout) = self.end(Reason::Cancelled) {
-            self.shared.put_back(checkout);
+            let (fate, step) = (Fate::Kept, Step::PutBack);
+            self.shared.take_back(checkout, fate, step);
         }
     }
 }

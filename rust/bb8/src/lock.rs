@@ -21,7 +21,7 @@ impl<T> Mutex<T> {
         Mutex(implementation::Mutex::new(held))
     }
 
-    // Inlining saves 5 instructions of a pair.
+    // Inlining saves 34 instructions of a pair.
     #[inline]
     pub(crate) fn lock(&self) -> MutexGuard<'_, T> {
         self.try_lock().unwrap_or_else(|| self.lock_taken())
@@ -36,30 +36,20 @@ impl<T> Mutex<T> {
                 return guard;
             }
         }
-        self.park()
+        let guard = self.0.lock();
+        #[cfg(not(feature = "parking_lot"))]
+        let guard = guard.unwrap_or_else(PoisonError::into_inner);
+        guard
     }
 
-    #[cfg(feature = "parking_lot")]
     fn try_lock(&self) -> Option<MutexGuard<'_, T>> {
-        self.0.try_lock()
-    }
-
-    #[cfg(feature = "parking_lot")]
-    fn park(&self) -> MutexGuard<'_, T> {
-        self.0.lock()
-    }
-
-    #[cfg(not(feature = "parking_lot"))]
-    fn try_lock(&self) -> Option<MutexGuard<'_, T>> {
-        match self.0.try_lock() {
+        let tried = self.0.try_lock();
+        #[cfg(not(feature = "parking_lot"))]
+        let tried = match tried {
             Err(TryLockError::WouldBlock) => None,
             Err(TryLockError::Poisoned(error)) => Some(error.into_inner()),
             Ok(guard) => Some(guard),
-        }
-    }
-
-    #[cfg(not(feature = "parking_lot"))]
-    fn park(&self) -> MutexGuard<'_, T> {
-        self.0.lock().unwrap_or_else(PoisonError::into_inner)
+        };
+        tried
     }
 }

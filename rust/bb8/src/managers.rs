@@ -34,6 +34,42 @@ pub trait ManageConnection: Sized + Send + Sync + 'static {
 }
 
 /// Prepares each connection that a pool opens, and inspects each that is returned.
+///
+/// # Examples
+///
+/// ```
+/// use bb8::{CustomizeConnection, Pool};
+/// # use std::{future::Future, pin::Pin};
+/// # include!(concat!(env!("CARGO_MANIFEST_DIR"), "/tests/common/numbers.rs"));
+///
+/// /// Counts the uses of each connection, and keeps it for two.
+/// #[derive(Debug)]
+/// struct Twice;
+///
+/// impl<E: 'static> CustomizeConnection<u32, E> for Twice {
+///     fn on_acquire<'a>(
+///         &'a self,
+///         uses: &'a mut u32,
+///     ) -> Pin<Box<dyn Future<Output = Result<(), E>> + Send + 'a>> {
+///         *uses = 0;
+///         Box::pin(async { Ok(()) })
+///     }
+///
+///     fn on_release(&self, uses: &mut u32) -> bool {
+///         *uses += 1;
+///         *uses < 2
+///     }
+/// }
+///
+/// # #[tokio::main] async fn main() {
+/// let builder = Pool::builder().connection_customizer(Box::new(Twice));
+/// let pool = builder.build(Numbers::default()).await.unwrap();
+/// for idle in [1, 0] {
+///     drop(pool.get().await.unwrap());
+///     assert_eq!(pool.state().idle_connections, idle);
+/// }
+/// # }
+/// ```
 pub trait CustomizeConnection<C: Send + 'static, E: 'static>:
     fmt::Debug + Send + Sync + 'static
 {
@@ -53,33 +89,6 @@ pub trait CustomizeConnection<C: Send + 'static, E: 'static>:
     /// It should not block. It should not panic either: if the guard is dropped because its task
     /// panics, a second panic aborts the process. A connection for which it returns false or panics
     /// is closed, and counts in `connections_closed_broken`.
-    ///
-    /// # Examples
-    ///
-    /// ```
-    /// use bb8::{CustomizeConnection, Pool};
-    /// # include!(concat!(env!("CARGO_MANIFEST_DIR"), "/tests/common/numbers.rs"));
-    ///
-    /// /// Keeps each connection for two uses.
-    /// #[derive(Debug)]
-    /// struct Twice;
-    ///
-    /// impl<E: 'static> CustomizeConnection<u32, E> for Twice {
-    ///     fn on_release(&self, uses: &mut u32) -> bool {
-    ///         *uses += 1;
-    ///         *uses < 2
-    ///     }
-    /// }
-    ///
-    /// # #[tokio::main] async fn main() {
-    /// let builder = Pool::builder().connection_customizer(Box::new(Twice));
-    /// let pool = builder.build(Numbers::default()).await.unwrap();
-    /// for idle in [1, 0] {
-    ///     drop(pool.get().await.unwrap());
-    ///     assert_eq!(pool.state().idle_connections, idle);
-    /// }
-    /// # }
-    /// ```
     fn on_release(&self, _connection: &mut C) -> bool {
         true
     }

@@ -5,29 +5,28 @@ use crate::attempt::{Attempt, Claimed};
 use crate::boxed::{Boxed, Reserved};
 use crate::builder::{Builder, Checks};
 use crate::core::{
-    self, unfit, AddAnswer, AtOnce, Checkout, ClaimAnswer, ClosedList, Core, EvictAnswer, GetKey,
-    Held, Key, Moment, ReapAnswer, TryAnswer,
+    self, AddAnswer, AtOnce, Checkout, ClaimAnswer, ClosedList, Core, EvictAnswer, GetKey, Held,
+    Key, Moment, ReapAnswer,
 };
 use crate::ends::Ends;
 use crate::errors::AddError;
-use crate::events::{CLOSED, IDLE_TIMEOUT, RETIRED};
+use crate::events::{CLOSED, IDLE_TIMEOUT, MAX_LIFETIME, RETIRED};
 use crate::figures::State;
 use crate::lock::{Mutex, MutexGuard};
 use crate::managers::ManageConnection;
-use crate::returning::{closed, kept, resume};
-use crate::waiters::{Handed, Waiters};
+use crate::returning::{resume, wake_all};
+use crate::waiters::Waiters;
 use bb8_core::kit::Global;
 use futures_util::future::{select, Either};
-use futures_util::stream::{FuturesUnordered, StreamExt};
+use futures_util::stream::{FuturesUnordered, TryStreamExt};
 use std::panic::{catch_unwind, AssertUnwindSafe};
 use std::pin::pin;
 use std::sync::{Arc, Weak};
-use std::task::Waker;
 use std::time::Duration;
 use std::{iter, mem, thread};
 use tokio::runtime::Handle;
 use tokio::sync::Notify;
-use tokio::time::{interval_at, sleep, timeout, Instant, Interval, MissedTickBehavior};
+use tokio::time::{interval_at, timeout, Instant, Interval, MissedTickBehavior};
 
 /// The state that the lock protects.
 pub(crate) struct Locked<C> {
@@ -41,6 +40,9 @@ pub(crate) struct Locked<C> {
     pub(crate) cut_off: Vec<Claimed<C>>,
     /// How many connection attempts are in progress.
     pub(crate) pending: u32,
+    /// Without a `connect_timeout`, how long an attempt may take, if that is more than
+    /// `connection_timeout`: others took too long.
+    pub(crate) learned_limit: Duration,
     /// How many closed connections are being dropped. Their slots are free in the core already.
     pub(crate) dropping: u32,
     pub(crate) counts: Counts,
@@ -55,25 +57,14 @@ pub(crate) struct Counts {
     pub(crate) checks_timed_out: u64,
     /// Idle connections that were closed at their own ends. The core counts them as detached.
     pub(crate) expired: u64,
+    /// The retired connections that the core had counted after the latest step that closed some.
+    retired: u64,
 }
 
 /// A step that closes idle connections.
 type Sweep<C> = fn(&mut Core<C>, Moment, &mut ClosedList<Held<C>>) -> ReapAnswer;
 
 impl<C> Locked<C> {
-    /// Hands an idle connection to a notified get, in the critical section that notified it.
-    /// Returns its waker, and whether connections are to be opened.
-    pub(crate) fn hand_off(&mut self, at: u64, get: GetKey) -> (Option<Waker>, bool) {
-        let (key, conn, grant, served) = match self.core.try_get(Moment(at), get) {
-            Ok(TryAnswer::Served(key, conn, grant)) => (key, conn, grant, true),
-            Ok(TryAnswer::Taken(key, conn, grant)) => (key, conn, grant, false),
-            Ok(TryAnswer::Waiting(_)) | Err(_) => unfit(),
-        };
-        let checkout = Checkout::new(key, conn);
-        let waker = self.waiters.hand_off(get, Handed { checkout, served });
-        (waker, grant.count > 0)
-    }
-
     /// Reserves capacity for the idle connections in the list of closed ones. Returns false if
     /// memory is refused.
     fn has_capacity(&mut self) -> bool {
@@ -86,21 +77,11 @@ impl<C> Locked<C> {
         !self.core.fits_close()
     }
 
-    /// Closes the pool, and with it the idle connections. Returns false if memory for the list of
-    /// closed connections is refused: then nothing changes.
-    fn close(&mut self, at: u64) -> bool {
-        let closes = !self.is_closed() && self.has_capacity();
-        if closes {
-            self.core.close_into(Moment(at), &mut self.closed);
-        }
-        closes || self.is_closed()
-    }
-
     /// Whether no connection is left, none is being dropped, and no attempt is in progress.
-    fn is_empty(&mut self) -> bool {
+    pub(crate) fn is_empty(&mut self) -> bool {
         // The moment of the last step is as good as any.
         let connections = self.core.state(Moment(0)).connections;
-        connections + self.pending == 0 && !self.is_dropping()
+        connections == 0 && self.pending == 0 && !self.is_dropping()
     }
 
     /// Takes the next connection that a step closed with others.
@@ -115,21 +96,53 @@ impl<C> Locked<C> {
         self.dropping > 0 || self.closed.len() > 0
     }
 
-    /// Claims an approval, so that one more connection may be opened. Closed connections count
-    /// until they are dropped, so that no attempt brings more than `max_size`.
+    /// Whether one more attempt may begin. Closed connections count until they are dropped, so that
+    /// no attempt brings more than `max_size`. If not, its connection is left to be opened.
+    fn has_slot(&mut self, max_size: u32) -> bool {
+        if !self.is_dropping() {
+            return true;
+        }
+        let connections = self.core.state(Moment(0)).connections;
+        let alive = [connections, self.pending, self.dropping].map(u64::from);
+        let alive = alive.into_iter().sum::<u64>() + self.closed.len() as u64;
+        let has_slot = alive < u64::from(max_size);
+        self.unopened |= !has_slot;
+        has_slot
+    }
+
+    /// Claims an approval, so that one more connection may be opened.
     pub(crate) fn claim(&mut self, at: u64, max_size: u32) -> Option<Key> {
-        if self.is_dropping() {
-            let alive = self.core.state(Moment(at)).connections + self.pending + self.dropping;
-            if alive as usize + self.closed.len() >= max_size as usize {
-                self.unopened = true;
-                return None;
-            }
+        if !self.has_slot(max_size) {
+            return None;
         }
         let ClaimAnswer::Claimed(approval) = self.core.claim(Moment(at)) else {
             return None;
         };
         self.pending += u32::from(approval.is_some());
         approval
+    }
+
+    /// Takes over the approval of an attempt that was cut off.
+    pub(crate) fn take_over(&mut self, max_size: u32) -> Option<Claimed<C>> {
+        if self.cut_off.is_empty() || !self.has_slot(max_size) {
+            return None;
+        }
+        self.pending += 1;
+        self.cut_off.pop()
+    }
+
+    /// Returns why the latest step closed an unbroken connection: it was retired, or too old.
+    pub(crate) fn reason(&mut self) -> &'static str {
+        let retired = self
+            .core
+            .state(Moment(0))
+            .statistics
+            .connections_closed_retired;
+        if mem::replace(&mut self.counts.retired, retired) < retired {
+            RETIRED
+        } else {
+            MAX_LIFETIME
+        }
     }
 }
 
@@ -178,6 +191,7 @@ impl<M: ManageConnection> Shared<M> {
                 unopened: false,
                 cut_off: Vec::new(),
                 pending: 0,
+                learned_limit: Duration::ZERO,
                 dropping: 0,
                 counts: Counts::default(),
                 ends: Ends::default(),
@@ -218,7 +232,6 @@ impl<M: ManageConnection> Shared<M> {
         Some(end)
     }
 
-    /// Whether a connection is past its own end.
     pub(crate) fn is_past_end(&self, conn: &Boxed<M::Connection>) -> bool {
         self.has_ends && self.now() >= conn.end()
     }
@@ -270,14 +283,10 @@ impl<M: ManageConnection> Shared<M> {
     pub(crate) async fn start(self: &Arc<Self>) -> Result<(), M::Error> {
         let at = self.now();
         self.lock().core.fill(Moment(at), false);
-        let attempts = iter::from_fn(|| Attempt::claim(self)).map(|it| it.run(None));
-        let mut attempts: FuturesUnordered<_> = attempts.collect();
-        while let Some(opened) = attempts.next().await {
-            if let Err(Some(error)) = opened {
-                return Err(error);
-            }
-        }
-        Ok(())
+        let attempts = iter::from_fn(|| Attempt::claim(self)).map(|it| it.run(false));
+        let attempts: FuturesUnordered<_> = attempts.collect();
+        let opened = attempts.try_collect::<()>().await;
+        opened.or_else(|error| error.map_or(Ok(()), Err))
     }
 
     /// Opens connections in the background that are missing to `min_idle`.
@@ -287,7 +296,6 @@ impl<M: ManageConnection> Shared<M> {
         self.open();
     }
 
-    /// Adds a connection, or returns it with the reason.
     pub(crate) fn add(
         self: &Arc<Self>,
         mut conn: M::Connection,
@@ -302,8 +310,8 @@ impl<M: ManageConnection> Shared<M> {
         let at = self.now();
         let end = self.set_end(&mut conn, at);
         let mut locked = self.lock();
-        let (refused, conn): (fn(_) -> _, _) = match locked.core.add(Moment(at), Some(conn), false)
-        {
+        let added = locked.core.add(Moment(at), Some(conn), false);
+        let (refused, conn): (fn(_) -> _, _) = match added {
             Ok(AddAnswer::Added(key, notified)) => {
                 locked.counts.added += 1;
                 self.entered(locked, at, key, end, notified);
@@ -317,7 +325,7 @@ impl<M: ManageConnection> Shared<M> {
         };
         drop(locked);
         match conn {
-            Some(conn) => Err(refused(Boxed::into_inner(conn))),
+            Some(conn) => Err(refused(conn.into_inner())),
             None => unreachable!("the core returns the connection that it refused"),
         }
     }
@@ -335,7 +343,7 @@ impl<M: ManageConnection> Shared<M> {
         if let Some(end) = end {
             locked.ends.note(key, end);
         }
-        self.settle(locked, at, kept(notified));
+        self.settle(locked, at, notified);
         if end.is_some() {
             self.new_end.notify_one();
         }
@@ -362,14 +370,14 @@ impl<M: ManageConnection> Shared<M> {
                 locked.core.evict(Moment(at), key)
             {
                 locked.counts.expired += 1;
-                let settle = || self.settle(locked, at, closed(conn, grant, notified));
+                let after = (conn.map(|it| (it, MAX_LIFETIME)), grant.count, notified);
+                let settle = || self.follow(locked, at, after);
                 // As in a reap, a panic of the destructor does not end the reaper.
                 let _panicked = catch_unwind(AssertUnwindSafe(settle));
             }
         }
     }
 
-    /// Retires all connections. If memory to list the idle ones is refused, nothing changes.
     pub(crate) fn retire(self: &Arc<Self>) {
         resume(self.sweep(Core::retire_into, RETIRED));
     }
@@ -384,11 +392,11 @@ impl<M: ManageConnection> Shared<M> {
             let answer = sweep(&mut locked.core, Moment(at), &mut locked.closed);
             locked.unopened |=
                 matches!(answer, ReapAnswer::Reaped { grant, .. } if grant.count > 0);
+            // The next step has another reason than this one.
+            locked.reason();
         }
-        drop(locked);
-        let dropped = self.drop_closed(reason);
-        self.settle(self.lock(), at, None);
-        dropped
+        self.settle(locked, at, None);
+        self.drop_closed(reason)
     }
 
     pub(crate) fn is_closed(&self) -> bool {
@@ -397,26 +405,22 @@ impl<M: ManageConnection> Shared<M> {
 
     /// Closes the pool: its idle connections are dropped, and its attempts and waiting gets end.
     /// Returns false if memory to list the connections is refused: then nothing changes.
-    pub(crate) fn close(&self) -> bool {
+    pub(crate) fn close(self: &Arc<Self>) -> bool {
         let at = self.now();
-        let mut locked = self.lock();
-        let is_closed = locked.close(at);
+        let mut guard = self.lock();
+        let locked = &mut *guard;
+        if !locked.is_closed() && locked.has_capacity() {
+            locked.core.close_into(Moment(at), &mut locked.closed);
+        }
+        let is_closed = locked.is_closed();
         if is_closed {
             let wakers = locked.waiters.close();
-            drop(locked);
-            wakers.for_each(Waker::wake);
+            drop(guard);
+            let woken = wake_all(wakers);
             self.closing.notify_waiters();
-            resume(self.drop_closed(CLOSED));
+            resume(woken.and(self.drop_closed(CLOSED)));
         }
         is_closed
-    }
-
-    /// Closes the pool, and resolves once nothing of it is left.
-    pub(crate) async fn close_and_wait(&self) {
-        while !self.close() {
-            sleep(Duration::from_millis(1)).await;
-        }
-        self.reached(Locked::is_empty).await;
     }
 
     /// Resolves once the condition holds. It can begin to hold only before `closing` notifies.
@@ -431,24 +435,21 @@ impl<M: ManageConnection> Shared<M> {
     }
 
     /// Opens connections for all approvals that are unclaimed, or whose attempts were cut off, each
-    /// in a task of its own. A runtime that shuts down drops such a task at once, which cuts its
-    /// attempt off again. So those that were cut off before are taken all at once.
+    /// in a task of its own.
     pub(crate) fn open(self: &Arc<Self>) {
         let Ok(runtime) = Handle::try_current() else {
             self.lock().unopened = true;
             return;
         };
-        let mut cut_off = Vec::new();
-        {
-            let mut locked = self.lock();
-            locked.unopened = locked.is_dropping() && !locked.cut_off.is_empty();
-            if !locked.unopened {
-                mem::swap(&mut cut_off, &mut locked.cut_off);
-            }
-        }
-        let again = cut_off.into_iter().map(|it| Attempt::again(self, it));
-        for attempt in again.chain(iter::from_fn(|| Attempt::claim(self))) {
+        self.lock().unopened = false;
+        while let Some(attempt) = Attempt::claim(self) {
+            let approval = attempt.approval().map(|it| it.number);
             runtime.spawn(attempt.run_alone());
+            let cut_off = self.lock().cut_off.last().map(|it| it.approval.number);
+            if cut_off == approval {
+                // This runtime shuts down: it dropped the attempt, and would drop the others, too.
+                return;
+            }
         }
     }
 }
@@ -469,11 +470,11 @@ impl<M: ManageConnection> Owner<M> {
     /// Returns a pool with settings that the builder has tested, and starts its reaper if an age is
     /// limited.
     pub(crate) fn new(settings: Builder<M>, manager: M) -> Arc<Self> {
-        let has_limits = settings.config.has_limits();
-        let rate = settings.config.reaper_rate;
         let shared = Arc::new(Shared::new(settings, manager));
         let owner = Arc::new(Owner { shared });
-        if has_limits {
+        let config = &owner.shared.settings.config;
+        if config.has_limits() {
+            let rate = config.reaper_rate;
             let mut ticks = interval_at(owner.shared.started + rate, rate);
             ticks.set_missed_tick_behavior(MissedTickBehavior::Skip);
             let new_end = owner.shared.new_end.clone();
@@ -500,15 +501,11 @@ async fn reap<M: ManageConnection>(
         let tick = pin!(ticks.tick());
         let new_end = pin!(new_end.notified());
         let woken = timeout(pause, select(tick, new_end)).await;
-        let is_tick = matches!(woken, Ok(Either::Left(_)));
-        match owner.upgrade() {
-            Some(owner) if !owner.shared.is_closed() => {
-                if is_tick {
-                    owner.shared.reap();
-                }
-                pause = owner.shared.expire();
-            }
-            _ => return,
+        let owner = owner.upgrade().filter(|it| !it.shared.is_closed());
+        let Some(owner) = owner else { return };
+        if let Ok(Either::Left(_)) = woken {
+            owner.shared.reap();
         }
+        pause = owner.shared.expire();
     }
 }

@@ -3,67 +3,24 @@
 
 use crate::boxed::Boxed;
 use crate::core::{
-    fit, CheckedErrAnswer, Checkout, DetachAnswer, GetKey, GiveUpAnswer, Grant, Held, Key, Moment,
-    PutBackAnswer, Reason,
+    fit, unfit, CheckedErrAnswer, Checkout, DetachAnswer, GetKey, GiveUpAnswer, Held, Key, Moment,
+    PutBackAnswer, Reason, TryAnswer,
 };
-use crate::events::{report, CLOSED, MAX_LIFETIME, RETIRED};
+use crate::events::{report, CLOSED, MAX_LIFETIME};
 use crate::lock::MutexGuard;
 use crate::managers::ManageConnection;
 use crate::pool::{Locked, Shared};
+use crate::waiters::Handed;
 use std::mem::forget;
 use std::panic::{catch_unwind, resume_unwind, AssertUnwindSafe};
 use std::sync::Arc;
 use std::task::Waker;
 use std::thread;
+use tokio::runtime::Handle;
 
-/// The work that is left after a step.
-pub(crate) struct After<C> {
-    /// The connection that the step closed, to be dropped.
-    pub(crate) closed: Held<C>,
-    /// Whether the step granted approvals, for which connections are to be opened.
-    pub(crate) grants: bool,
-    /// The get that the step notified.
-    pub(crate) notified: Option<GetKey>,
-}
-
-/// Returns the work after a step that closed nothing, or `None` if there is none.
-pub(crate) fn kept<C>(notified: Option<GetKey>) -> Option<After<C>> {
-    notified?;
-    Some(After {
-        closed: None,
-        grants: false,
-        notified,
-    })
-}
-
-/// Returns the work after a step that closed this connection.
-pub(crate) fn closed<C>(
-    closed: Held<C>,
-    grant: Grant,
-    notified: Option<GetKey>,
-) -> Option<After<C>> {
-    Some(After {
-        closed,
-        grants: grant.count > 0,
-        notified,
-    })
-}
-
-/// Returns the work after a guard was dropped.
-fn put_back<C>(answer: PutBackAnswer<Held<C>>) -> Option<After<C>> {
-    match answer {
-        PutBackAnswer::Kept(notified) => kept(notified),
-        PutBackAnswer::Closed(conn, grant, notified) => closed(conn, grant, notified),
-    }
-}
-
-/// Returns the work after a get has ended without a connection.
-pub(crate) fn gave_up<C>(answer: GiveUpAnswer<Held<C>>) -> Option<After<C>> {
-    match answer {
-        GiveUpAnswer::GaveUp(notified) | GiveUpAnswer::Kept(_, notified) => kept(notified),
-        GiveUpAnswer::Closed(_, conn, grant, notified) => closed(conn, grant, notified),
-    }
-}
+/// The connection that a step closed, with the reason, how many approvals the step granted, and the
+/// get that it notified.
+pub(crate) type After<C> = (Option<(Boxed<C>, &'static str)>, u32, Option<GetKey>);
 
 /// The step that returns a checked-out connection to the core.
 #[derive(Clone, Copy)]
@@ -108,23 +65,18 @@ pub(crate) enum Fate {
 
 impl<M: ManageConnection> Shared<M> {
     /// Returns a guard's connection to the pool.
-    // Inlining saves 60 instructions of a pair.
+    // Inlining saves 62 instructions of a pair.
     #[inline]
     pub(crate) fn release(self: &Arc<Self>, checkout: Checkout<M::Connection>) {
         if self.inspects {
             self.inspect(checkout);
         } else {
-            self.put_back(checkout);
+            self.take_back(checkout, Fate::Kept, Step::PutBack);
         }
     }
 
-    /// Returns a connection to the pool without an inspection.
-    pub(crate) fn put_back(self: &Arc<Self>, checkout: Checkout<M::Connection>) {
-        self.take_back(checkout, Fate::Kept, Step::PutBack);
-    }
-
     /// Inspects a connection, and returns it to the pool unless it is to be closed.
-    // Not inlining saves 46 instructions of a pair.
+    // Not inlining saves 52 instructions of a pair.
     #[inline(never)]
     fn inspect(self: &Arc<Self>, checkout: Checkout<M::Connection>) {
         self.take_back(checkout, Fate::Released, Step::PutBack);
@@ -132,7 +84,7 @@ impl<M: ManageConnection> Shared<M> {
 
     /// Returns a checked-out connection by a step. If it is not kept, or if the manager or the
     /// customizer panics, it is dropped before the core frees its slot, and counts as broken.
-    // Inlining saves 61 instructions of a pair.
+    // Inlining saves 63 instructions of a pair.
     #[inline]
     pub(crate) fn take_back(
         self: &Arc<Self>,
@@ -167,7 +119,7 @@ impl<M: ManageConnection> Shared<M> {
     }
 
     /// Makes the step that returns a connection. It is `None` if it was dropped.
-    // Inlining saves 30 instructions of a pair.
+    // Inlining saves 26 instructions of a pair.
     #[inline(always)]
     fn make(self: &Arc<Self>, step: Step, key: Key, conn: Held<M::Connection>, broken: bool) {
         let at = match step {
@@ -177,19 +129,33 @@ impl<M: ManageConnection> Shared<M> {
         let moment = Moment(at);
         let mut locked = self.lock();
         let core = &mut locked.core;
-        let after = match step {
-            Step::PutBack => put_back(fit(core.put_back(moment, key, conn, broken))),
+        match step {
+            Step::PutBack => match fit(core.put_back(moment, key, conn, broken)) {
+                PutBackAnswer::Kept(get) => self.settle(locked, at, get),
+                PutBackAnswer::Closed(conn, grant, get) => {
+                    let reason = locked.reason();
+                    let closed = conn.map(|it| (it, reason));
+                    self.follow(locked, at, (closed, grant.count, get))
+                }
+            },
             Step::CheckFailed(get) => {
                 let answer = fit(core.checked_err(moment, get, conn, broken, key.place));
                 let CheckedErrAnswer::Closed(_, conn, grant, notified) = answer;
-                closed(conn, grant, notified)
+                let reason = locked.reason();
+                let closed = conn.map(|it| (it, reason));
+                self.follow(locked, at, (closed, grant.count, notified))
             }
             Step::GiveBack(get, reason) => {
-                let answer = core.give_back(moment, get, reason, conn, broken, key.place);
-                gave_up(fit(answer))
+                match fit(core.give_back(moment, get, reason, conn, broken, key.place)) {
+                    GiveUpAnswer::Closed(_, conn, grant, get) => {
+                        let reason = locked.reason();
+                        let closed = conn.map(|it| (it, reason));
+                        self.follow(locked, at, (closed, grant.count, get))
+                    }
+                    kept => self.settle(locked, at, kept.notified()),
+                }
             }
-        };
-        self.settle(locked, at, after);
+        }
     }
 
     /// Returns the reason to close an unbroken connection that a guard returns, if there is one.
@@ -207,92 +173,82 @@ impl<M: ManageConnection> Shared<M> {
         let mut locked = self.lock();
         let detached = fit(locked.core.detach(Moment(at), checkout.key));
         let DetachAnswer::Detached(grant, notified) = detached;
-        self.settle(locked, at, closed(None, grant, notified));
+        self.follow(locked, at, (None, grant.count, notified));
         self.closing.notify_waiters();
         report!(debug, self, age = ?checkout.conn.age(), "connection detached");
         checkout.conn.into_inner()
     }
 
-    /// Does the work after a step at this moment: releases the lock, drops the closed connection,
-    /// starts the granted connection attempts, and wakes the notified get or hands it a connection.
-    // Inlining saves 29 instructions of a pair.
-    #[inline(always)]
+    /// As `follow`, after a step that closed and granted nothing.
     pub(crate) fn settle(
         self: &Arc<Self>,
         locked: MutexGuard<'_, Locked<M::Connection>>,
         at: u64,
-        after: Option<After<M::Connection>>,
+        notified: Option<GetKey>,
     ) {
-        if after.is_some() || locked.unopened {
-            self.follow(locked, at, after);
+        if notified.is_some() || locked.unopened {
+            self.follow(locked, at, (None, 0, notified));
         }
     }
 
-    fn follow(
+    /// Does the work after a step at this moment: releases the lock, starts the granted connection
+    /// attempts, wakes the notified get or hands it a connection, and drops the closed connection.
+    /// The drop is last, as the destructor may take long.
+    pub(crate) fn follow(
         self: &Arc<Self>,
         mut locked: MutexGuard<'_, Locked<M::Connection>>,
         at: u64,
-        after: Option<After<M::Connection>>,
+        (closed, granted, notified): After<M::Connection>,
     ) {
-        let Some(after) = after else {
-            drop(locked);
-            return self.open();
-        };
-        let (waker, more) = match after.notified {
+        let (waker, more) = match notified {
             Some(get) => self.notify(&mut locked, at, get),
-            None => (None, false),
+            None => (None, 0),
         };
-        let due = locked.unopened | after.grants | more;
-        locked.dropping += u32::from(after.closed.is_some());
+        let due = locked.unopened || granted + more > 0;
+        locked.dropping += u32::from(closed.is_some());
+        let is_closed = locked.is_closed();
         drop(locked);
-        match after.closed {
-            None => self.go_on(due, waker),
-            Some(conn) => self.drop_late(conn, due, waker),
-        }
-    }
-
-    fn go_on(self: &Arc<Self>, due: bool, waker: Option<Waker>) {
         if due {
             self.open();
         }
-        if let Some(waker) = waker {
-            waker.wake();
-        }
+        let Some((conn, reason)) = closed else {
+            return waker.map_or((), Waker::wake);
+        };
+        let woken = wake_all(waker);
+        let reason = if is_closed { CLOSED } else { reason };
+        resume(woken.and(self.drop_one(conn, reason)));
     }
 
-    // Marking it cold saves 6 instructions of a waiting get.
-    #[cold]
-    fn drop_late(self: &Arc<Self>, conn: Boxed<M::Connection>, due: bool, waker: Option<Waker>) {
-        let reason = if self.is_closed() { CLOSED } else { RETIRED };
-        let dropped = self.drop_one(conn, reason);
-        self.go_on(self.lock().unopened || due, waker);
-        resume(dropped);
-    }
-
-    /// Returns the waker of a notified get, and whether connections are to be opened. In a fair
-    /// pool the get is handed an idle connection. If none is idle it tries by itself, so that the
-    /// connection that it requests is opened in the runtime of its task. A get without an entry was
-    /// refused memory to wait: it gives up, which passes its notification to the next one.
+    /// Returns the waker of a notified get, and how many approvals were granted. In a fair pool the
+    /// get is handed an idle connection. If none is idle it tries by itself, so that the connection
+    /// that it requests is opened in the runtime of its task. A get without an entry was refused
+    /// memory to wait: it gives up, which passes its notification to the next one.
     fn notify(
         &self,
         locked: &mut Locked<M::Connection>,
         at: u64,
         get: GetKey,
-    ) -> (Option<Waker>, bool) {
+    ) -> (Option<Waker>, u32) {
         let mut waited = |wait| {
             let since = locked.waiters.since(get);
             since.is_some_and(|since| at.saturating_sub(since) >= wait)
         };
-        if self.fair_after.is_some_and(&mut waited) && locked.core.idle() > 0 {
-            locked.hand_off(at, get)
-        } else {
-            (locked.waiters.notify(get), false)
+        if !self.fair_after.is_some_and(&mut waited) || locked.core.idle() == 0 {
+            return (locked.waiters.notify(get), 0);
         }
+        let (key, conn, grant, served) = match fit(locked.core.try_get(Moment(at), get)) {
+            TryAnswer::Served(key, conn, grant) => (key, conn, grant, true),
+            TryAnswer::Taken(key, conn, grant) => (key, conn, grant, false),
+            TryAnswer::Waiting(_) => unfit(),
+        };
+        let checkout = Checkout::new(key, conn);
+        let waker = locked.waiters.hand_off(get, Handed { checkout, served });
+        (waker, grant.count)
     }
 
     /// Drops the connections that a step closed all at once, one by one. If some of the destructors
     /// panic, the others run all the same, and the first panic is returned.
-    pub(crate) fn drop_closed(&self, reason: &str) -> thread::Result<()> {
+    pub(crate) fn drop_closed(self: &Arc<Self>, reason: &str) -> thread::Result<()> {
         let mut result = Ok(());
         loop {
             let Some(conn) = self.lock().take_closed() else {
@@ -302,20 +258,40 @@ impl<M: ManageConnection> Shared<M> {
         }
     }
 
-    /// Drops a connection that a step closed. Returns the panic of its destructor.
-    fn drop_one(&self, conn: Boxed<M::Connection>, reason: &str) -> thread::Result<()> {
+    /// Drops a connection that a step closed, and opens connections that waited for its slot.
+    /// Outside of a runtime the waiting gets are woken, to do that in theirs. Returns the panic of
+    /// the destructor.
+    fn drop_one(self: &Arc<Self>, conn: Boxed<M::Connection>, reason: &str) -> thread::Result<()> {
         let dropped = catch_unwind(AssertUnwindSafe(|| {
             self.closed(&conn, reason);
             drop(conn);
         }));
-        self.lock().dropping -= 1;
+        let mut locked = self.lock();
+        locked.dropping -= 1;
+        let is_inside = Handle::try_current().is_ok();
+        let due = locked.unopened;
+        let wakers = match due && !is_inside {
+            true => locked.waiters.wakers(),
+            false => Vec::new(),
+        };
+        drop(locked);
         self.closing.notify_waiters();
-        dropped
+        if due && is_inside {
+            self.open();
+        }
+        dropped.and(wake_all(wakers))
     }
 }
 
-/// Resumes the panic of a connection's destructor. Exception: if this thread is panicking already,
-/// a second panic would abort the process.
+/// Wakes all tasks. If some wakers panic, the others are woken all the same, and the first panic is
+/// returned.
+pub(crate) fn wake_all(wakers: impl IntoIterator<Item = Waker>) -> thread::Result<()> {
+    let wake = |waker: Waker| catch_unwind(AssertUnwindSafe(|| waker.wake()));
+    wakers.into_iter().map(wake).fold(Ok(()), Result::and)
+}
+
+/// Resumes the panic of a connection's destructor or of a waker. Exception: if this thread is
+/// panicking already, a second panic would abort the process.
 pub(crate) fn resume(dropped: thread::Result<()>) {
     match dropped {
         Err(panicked) if !thread::panicking() => resume_unwind(panicked),

@@ -12,7 +12,6 @@ pub(crate) struct Handed<C> {
     pub(crate) served: bool,
 }
 
-/// A waiting get.
 struct Waiting {
     number: u64,
     since: u64,
@@ -48,7 +47,7 @@ impl<C> Waiters<C> {
 
     /// Makes a get wait, and takes its waker. Returns false if memory is refused, or if no get may
     /// wait any more.
-    // Inlining saves 25 instructions of a cancelled get.
+    // Inlining saves 21 instructions of a cancelled get.
     #[inline]
     pub(crate) fn wait(&mut self, get: GetKey, since: u64, waker: &mut Option<Waker>) -> bool {
         if (self.hands_off || get.place >= self.waiting.len()) && !self.reserve_for(get.place) {
@@ -65,7 +64,7 @@ impl<C> Waiters<C> {
     }
 
     /// Reserves memory for a get at this index, and for the hand-off to it.
-    // Marking it cold saves 6 instructions of a waiting get.
+    // Marking it cold saves 1 instruction of a pair, and costs 13 of a waiting get.
     #[cold]
     fn reserve_for(&mut self, index: usize) -> bool {
         let missing = (index + 1).saturating_sub(self.waiting.len());
@@ -87,7 +86,7 @@ impl<C> Waiters<C> {
 
     /// Removes a get, if it waits. Its waker, which is user code, is to be dropped outside of the
     /// lock.
-    // Inlining saves 35 instructions of a waiting get.
+    // Inlining saves 25 instructions of a cancelled get.
     #[inline]
     pub(crate) fn remove(&mut self, get: GetKey) -> Option<Waker> {
         let removed = self.entry(get)?.take();
@@ -98,7 +97,6 @@ impl<C> Waiters<C> {
         removed?.waker
     }
 
-    /// Takes the connection that was handed to a get.
     pub(crate) fn take_handed(&mut self, get: GetKey) -> Option<Handed<C>> {
         if self.handed.is_empty() {
             return None;
@@ -111,7 +109,6 @@ impl<C> Waiters<C> {
         self.entry(get)?.as_mut()?.waker.take()
     }
 
-    /// Returns the moment since which a get waits.
     pub(crate) fn since(&mut self, get: GetKey) -> Option<u64> {
         Some(self.entry(get)?.as_ref()?.since)
     }
@@ -140,7 +137,6 @@ impl<C> Waiters<C> {
         wakers
     }
 
-    /// For how many waiting gets there is memory.
     #[cfg(test)]
     pub(crate) fn capacity(&self) -> usize {
         self.waiting.capacity()

@@ -65,6 +65,8 @@ struct Faults {
     attempts: AtomicU32,
     checks: AtomicU32,
     broken: AtomicU32,
+    /// How long each check takes, in seconds.
+    check_takes: AtomicU32,
 }
 
 fn fails(left: &AtomicU32) -> bool {
@@ -86,6 +88,10 @@ impl ManageConnection for Manager {
     }
 
     async fn is_valid(&self, _: &mut ()) -> Result<(), Refused> {
+        let takes = self.0.check_takes.load(SeqCst);
+        if takes > 0 {
+            sleep(Duration::from_secs(takes.into())).await;
+        }
         if fails(&self.0.checks) {
             return Err(Refused);
         }
@@ -288,7 +294,67 @@ async fn a_subscriber_that_panics_leaks_no_slot() {
     sleep(second).await;
     let state = pool.state();
     assert_eq!((state.connections, state.pending_connections), (0, 0));
+    assert!(state.statistics.connections_failed > 0);
     assert!(pool.add(()).is_ok());
     assert!(catch_unwind(AssertUnwindSafe(|| pool.retire())).is_err());
     assert!(timeout(second, pool.close()).await.is_ok());
+}
+
+#[tokio::test(start_paused = true)]
+async fn a_subscriber_that_panics_at_a_slow_get_leaks_no_slot() {
+    for check in [true, false] {
+        let builder = Pool::builder().name("panics").test_on_check_out(check);
+        let pool = builder.max_size(1).build(Manager(Arc::default())).await;
+        let pool = pool.unwrap();
+        pool.add(()).unwrap();
+        let conn = pool.get().await.unwrap();
+        let _subscribed = tracing::subscriber::set_default(Log::default());
+        let gets = pool.clone();
+        let get = tokio::spawn(async move { gets.get().await.is_ok() });
+        sleep(Duration::from_secs(5)).await;
+        drop(conn);
+        assert!(get.await.is_err());
+        assert!(pool.try_get().await.unwrap().is_some(), "{pool:?}");
+    }
+}
+
+#[tokio::test(start_paused = true)]
+async fn a_connection_closed_for_its_age_is_reported_as_such() {
+    let log = Log::default();
+    let _subscribed = tracing::subscriber::set_default(log.clone());
+    let second = Duration::from_secs(1);
+    let faults: Arc<Faults> = Arc::default();
+    let builder = || Pool::builder().max_lifetime(10 * second).idle_timeout(None);
+    let pool = builder().build(Manager(faults.clone())).await.unwrap();
+    let conn = pool.get().await.unwrap();
+    advance(20 * second).await;
+    log.take();
+    drop(conn);
+    let line = r#"DEBUG message=connection closed pool="bb8" reason="max_lifetime" age=20s"#;
+    assert_eq!(log.take(), [line]);
+    // The next one is retired during its check, which fails, and counts as retired. That is not the
+    // reason of one after it.
+    drop(pool.get().await.unwrap());
+    faults.checks.store(1, SeqCst);
+    faults.check_takes.store(1, SeqCst);
+    let gets = pool.clone();
+    let get = tokio::spawn(async move { gets.get_owned().await.unwrap() });
+    sleep(second / 2).await;
+    pool.retire();
+    let conn = get.await.unwrap();
+    assert_eq!(pool.state().statistics.connections_closed_retired, 1);
+    advance(20 * second).await;
+    log.take();
+    drop(conn);
+    let aged = log.take();
+    let start = r#"DEBUG message=connection closed pool="bb8" reason="max_lifetime" age=2"#;
+    assert!(aged.len() == 1 && aged[0].starts_with(start), "{aged:?}");
+    // The reaper closes an idle connection at its own end, within ten seconds, and opens another.
+    let builder = builder().min_idle(1).max_lifetime_jitter(0.5);
+    let _pool = builder.build(Manager(Arc::default())).await.unwrap();
+    log.take();
+    sleep(10 * second).await;
+    let lines = log.take();
+    let line = r#"DEBUG message=connection closed pool="bb8" reason="max_lifetime" age="#;
+    assert!(lines[0].starts_with(line), "{lines:?}");
 }

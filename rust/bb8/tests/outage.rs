@@ -1,9 +1,9 @@
 //! Outages: connections that freeze, attempts that never answer, and slow destructors.
 
-use bb8::{ManageConnection, Pool, RunError, State};
+use bb8::{ManageConnection, Pool, PooledConnection, RunError, State};
 use futures_util::future::join_all;
 use std::future::pending;
-use std::sync::atomic::{AtomicBool, AtomicU32, Ordering::SeqCst};
+use std::sync::atomic::{AtomicBool, AtomicU32, AtomicU64, Ordering::SeqCst};
 use std::sync::Arc;
 use std::thread;
 use std::time::Duration;
@@ -19,7 +19,8 @@ struct Server {
     opened: AtomicU32,
     frozen: AtomicU32,
     is_silent: AtomicBool,
-    connect_takes: Duration,
+    /// How long an attempt takes, in milliseconds.
+    connect_takes: AtomicU64,
     drop_takes: Duration,
     alive: AtomicU32,
     most_alive: AtomicU32,
@@ -55,7 +56,7 @@ impl ManageConnection for Manager {
         if server.is_silent.load(SeqCst) {
             pending::<()>().await;
         }
-        sleep(server.connect_takes).await;
+        sleep(millis(server.connect_takes.load(SeqCst))).await;
         let alive = server.alive.fetch_add(1, SeqCst) + 1;
         server.most_alive.fetch_max(alive, SeqCst);
         Ok(Connection {
@@ -184,10 +185,46 @@ async fn attempts_that_never_answer_free_their_slots() {
     assert_eq!(pool.state().pending_connections, 0);
 }
 
+/// The first attempt may take the `connection_timeout`, a second. Each that is cut off doubles the
+/// limit; after it come pauses of 400, 500 and 500 ms. One that takes less than a second resets it.
+#[tokio::test(start_paused = true)]
+async fn connections_that_open_slowly_are_opened_in_the_end() {
+    let server: Arc<Server> = Arc::default();
+    let builder = Pool::builder().connection_timeout(millis(1000));
+    let pool = builder.build(Manager(server.clone())).await.unwrap();
+    // How long connecting takes, until when the get is served, how many attempts have failed.
+    let slow = 1000 + 400 + 2000 + 500 + 3000;
+    for (takes, served, failed) in [
+        (3000, slow, 2),
+        (3000, 3000, 2),
+        (100, 100, 2),
+        (3000, slow, 4),
+    ] {
+        server.connect_takes.store(takes, SeqCst);
+        let start = Instant::now();
+        let conn = pool.get_timeout(millis(20_000)).await.unwrap();
+        assert_eq!(start.elapsed(), millis(served));
+        assert_eq!(pool.state().statistics.connections_failed, failed);
+        PooledConnection::detach(conn);
+    }
+}
+
+/// The attempts take 1, 2, 4, 8, 16, 30 and 30 seconds, and the pauses 400 ms and then 500: the
+/// seventh fails after 93.9 seconds.
+#[tokio::test(start_paused = true)]
+async fn no_attempt_is_given_more_than_30_seconds() {
+    let server: Arc<Server> = Arc::default();
+    server.is_silent.store(true, SeqCst);
+    let builder = Pool::builder().connection_timeout(millis(1000));
+    let pool = builder.build(Manager(server)).await.unwrap();
+    assert!(pool.get_timeout(millis(93_950)).await.is_err());
+    assert_eq!(pool.state().statistics.connections_failed, 7);
+}
+
 #[tokio::test(start_paused = true)]
 async fn the_first_connections_may_take_any_time() {
     let server = Arc::new(Server {
-        connect_takes: Duration::from_secs(5),
+        connect_takes: AtomicU64::new(5000),
         ..Server::default()
     });
     let builder = Pool::builder()
