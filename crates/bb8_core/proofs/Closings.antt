@@ -1,4 +1,5 @@
 -- The connections that a reap or the last leave closes, one by one.
+use Rattle.std.proofs.lemmas.Bool.Decides.{nat_tests}
 use Rattle.bb8_core.proofs.Words.{◌≡◌, ◌≢◌, ℕ, suc, ◌+◌, ◌<◌, max, Bool, true, false, cond, eqb, List, [], ◌∷◌, ◌++◌, drop, slice_get, Option, option_and_then, Some, None, refl, sym, ap, ◌∙◌, arith, subst, FinMap, get, remove, Grant, Idle, Standing, Numbered, at_number, update, numbers, in_order, tally, one, after_end, stands, is_idle, idles_out, lives_out, ReapCounts, Reaps, after_reap, after_reaped, AreReaped, AreFirst, RecordsView, Ledger, Start, start, position, latest, records, peak, idle_at, outlived, reaped_at, outlived_at, idled_at, retiring, retired_at, Settings, StateView, HasLedger, shown_records, Before, same_or_not, at-below, get_removed, and_right, standing_is, idle_is, lives_idle, idles_idle, entered_before, ended_before, inl, inr}
 use Rattle.std.specs.Ordering.{nat_cmp}
 use Rattle.circular_buffer.specs.Buffer.{Buffer}
@@ -24,12 +25,10 @@ module _ {R : Type 0} (p : R → Bool) where
   passing (Some r) = one (p r)
 
   ones : (b : Bool) → cond b (one true) 0 ≡ one b
-  ones true = refl
-  ones false = refl
+  ones b = grind (arith, nat_tests)
 
   zeros : (b : Bool) → cond b (one false) 0 ≡ 0
-  zeros true = refl
-  zeros false = refl
+  zeros b = grind (arith, nat_tests)
 
   head_count : (k n : ℕ) (ks : List ℕ) (b : Bool) → tally (eqb k) (cond b (n ∷ ks) ks) ≡ cond b (one (eqb k n)) 0 + tally (eqb k) ks
   head_count k n ks true = refl
@@ -38,14 +37,7 @@ module _ {R : Type 0} (p : R → Bool) where
   -- a number comes once among those that pass, if its element does, and else never
   numbers_count : (rs : List R) (n k : ℕ) → tally (eqb k) (numbers p n rs) ≡ passing (at_number n rs k)
   numbers_count [] n k = refl
-  numbers_count (r ∷ rs) n k =
-      let ih : tally (eqb k) (numbers p (suc n) rs) ≡ passing (at_number (suc n) rs k) = numbers_count rs (suc n) k in
-      let split : tally (eqb k) (numbers p n (r ∷ rs)) ≡ cond (p r) (one (eqb k n)) 0 + tally (eqb k) (numbers p (suc n) rs) = head_count k n (numbers p (suc n) rs) (p r) in
-      elim (same_or_not k n) [
-        | inl t ↦ let below : passing (at_number (suc n) rs k) ≡ 0 = ap passing (at-below rs (suc n) k (omega arith)) in
-            omega (arith, ap (λ (b : Bool). passing (cond b (Some r) (at_number (suc n) rs k))) t.0, ap (λ (b : Bool). cond (p r) (one b) 0) t.0 ∙ ones (p r))
-        | inr t ↦ omega (arith, ap (λ (b : Bool). passing (cond b (Some r) (at_number (suc n) rs k))) t.0, ap (λ (b : Bool). cond (p r) (one b) 0) t.0 ∙ zeros (p r))
-      ]
+  numbers_count (r ∷ rs) n k = grind (arith, nat_tests, numbers_count rs (suc n) k, head_count k n (numbers p (suc n) rs) (p r), same_or_not k n, at-below rs (suc n) k, ones (p r), zeros (p r))
 
 module _ {C : Type 0} where
   -- each is idle as its turn to end comes
@@ -55,11 +47,7 @@ module _ {C : Type 0} where
 
   -- what is left after a removal was there before
   left_in : (m : FinMap nat_cmp (Standing C)) (k j : ℕ) (r : Standing C) → get (remove m k) j ≡ Some r → get m j ≡ Some r
-  left_in m k j r h = go (eqb j k) (sym (get_removed m k j) ∙ h)
-    where
-      go : (b : Bool) → cond b None (get m j) ≡ Some r → get m j ≡ Some r
-      go true e = cc
-      go false e = e
+  left_in m k j r h = grind (arith, nat_tests, get_removed m k j)
 
   -- so each was idle under its number in the beginning
   are_closed : (s : StateView C) (ks : List ℕ) (m : FinMap nat_cmp (Standing C)) → AreIdle ks m → ((k : ℕ) (r : Standing C) → get m k ≡ Some r → get s.records.places k ≡ Some r)
@@ -88,8 +76,7 @@ module _ {C : Type 0} where
     reaped_idle idle (k ∷ ks) s each = (go (get s.places k) refl, reaped_idle idle ks (after_reaped k s) each.1)
       where
         go : (o : Option (Standing C)) → get s.places k ≡ o → (r : Standing C) × (c : C) × (get s.places k ≡ Some r) × (r.place ≡ Idle c)
-        go None e = absurd (let clash : false ≡ true = sym (ap test e ∙ off) ∙ each.0 in cc)
-        go (Some r) e = let is = idle_is r.place (idle r (sym (ap test e) ∙ each.0)) in (r, is.0, e, is.1)
+        go o e = grind (arith, nat_tests)
 
     -- a number is among them once if it passed before, and does not any more
     reaped_count : (k : ℕ) (ks : List ℕ) (s : RecordsView C) → AreReaped test ks s → tally (eqb k) ks + one (test (get (after_reap ks s).places k)) ≡ one (test (get s.places k))
@@ -115,8 +102,7 @@ module _ {C : Type 0} where
     where
       go : (o : Option (Numbered (Standing C))) → one (lives_out s.config now (option_and_then (λ (r : Numbered (Standing C)). r.standing) o))
           ≡ passing (λ (r : Numbered (Standing C)). lives_out s.config now r.standing) o
-      go None = refl
-      go (Some r) = refl
+      go o = grind (arith, nat_tests)
 
   -- what the code closed comes as often as in the ledger's list
   reap_count : (l : Ledger C) (at : ℕ) (js ks : List ℕ) (outcome : ReapCounts)
@@ -198,24 +184,12 @@ module _ {C : Type 0} where
   pub left_offers : {s t : StateView C} (list : Buffer (Closed C)) {offered : Buffer (Closed C)} → s ≡ t → HasLedger s → s.handles ≡ 1
       → offered ≡ offered_all (closed_of s.records.idle s.records.places) list → OffersLeft t list offered
   left_offers {s} {t} list {offered} is h last listed =
-      subst (λ (x : StateView C). OffersLeft x list offered) is (
-        closed_of s.records.idle s.records.places,
-        subst (λ (b : Bool). AreIdleAs s (cond b s.records.idle []) (closed_of s.records.idle s.records.places)) (sym (ap (λ (n : ℕ). eqb n 1) last))
-            (are_closed s s.records.idle s.records.places
-            (subst (λ (x : StateView C). AreIdle x.records.idle x.records.places) h.2 (line_idle (start h.0).first (position h.0) (peak h.0) (shown h.0).records.idle (records h.0) (entered_before h.0) refl)) (λ k q e. e)),
-        listed,
-      )
+      grind (arith, nat_tests, are_closed s s.records.idle s.records.places, line_idle (start h.0).first (position h.0) (peak h.0) (shown h.0).records.idle (records h.0), entered_before h.0)
 
   pub shut_offers : {s t : StateView C} (list : Buffer (Closed C)) {offered : Buffer (Closed C)} → s ≡ t → HasLedger s
       → offered ≡ offered_all (closed_of s.records.idle s.records.places) list → OffersShut t list offered
   shut_offers {s} {t} list {offered} is h listed =
-      subst (λ (x : StateView C). OffersShut x list offered) is (
-        closed_of s.records.idle s.records.places,
-        are_closed s s.records.idle s.records.places
-            (subst (λ (x : StateView C). AreIdle x.records.idle x.records.places) h.2 (line_idle (start h.0).first (position h.0) (peak h.0) (shown h.0).records.idle (records h.0) (entered_before h.0) refl)) (λ k q e. e),
-        listed,
-      )
+      grind (arith, nat_tests, are_closed s s.records.idle s.records.places, line_idle (start h.0).first (position h.0) (peak h.0) (shown h.0).records.idle (records h.0), entered_before h.0)
 
   pub none_left : {s t : StateView C} (list : Buffer (Closed C)) → s ≡ t → s.handles ≢ 1 → OffersLeft t list list
-  none_left {s} {t} list is more =
-      subst (λ (x : StateView C). OffersLeft x list list) is ([], subst (λ (b : Bool). AreIdleAs s (cond b s.records.idle []) []) (sym (numbered.ne_test s.handles 1 more)) tt, refl)
+  none_left {s} {t} list is more = grind (arith, nat_tests, numbered.ne_test s.handles 1 more)

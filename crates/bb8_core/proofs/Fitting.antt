@@ -1,11 +1,10 @@
 -- What the condition of a step says of what is shown.
-use Rattle.bb8_core.proofs.Words.{◌≡◌, ℕ, length, ◌≤◌, Bool, true, false, Option, Some, None, is_some, refl, sym, ap, ◌∙◌, subst, ◌+◌, ◌<◌, max, arith, ltb-true, get, Place, Unclaimed, Claimed, Idle, Held, Guarded, Standing, Getting, CheckedOk, GiveUp, Leave, Reason, Cancelled, Act, Answer, Ledger, agree, ◌&&◌, conns, approved, alive, get_of, start, latest, handles, records, gets, record_of, holds, stands, gets_stand, is_unnotified, is_claimed, is_guarded, is_held_by, is_out, is_conn, is_trying, GetPlace, Active, Holding, fits, IsLegal, StateView, shown_beside, HasLedger, IsFitting, Represents, standing_is, claimed_is, guarded_out, and_right, all_held, alive_get, alive_is, conn_counted, conn_from, claimed_counted, Fits, all_fit, due_few, Numbered, end_of_numbers, due, Settings, no_accesses, RecordsView, NoneAfter, ltb, next, option_and_then}
+use Rattle.std.proofs.lemmas.Bool.Decides.{nat_tests}
+use Rattle.bb8_core.proofs.Words.{◌≡◌, ◌≢◌, Begin, ℕ, length, ◌≤◌, Bool, true, false, Option, Some, None, is_some, refl, sym, ap, ◌∙◌, subst, ◌+◌, ◌<◌, max, arith, ltb-true, get, Place, Standing, Getting, CheckedOk, GiveUp, Leave, Reason, Cancelled, Act, Answer, Ledger, agree, ◌&&◌, get_of, start, handles, records, gets, record_of, holds, stands, gets_stand, is_unnotified, is_claimed, is_guarded, is_held_by, is_out, is_conn, is_trying, fits, IsLegal, StateView, shown_beside, HasLedger, IsFitting, Represents, standing_is, claimed_is, guarded_out, and_right, all_held, alive_get, alive_is, conn_counted, conn_from, claimed_counted, Fits, all_fit, due_few, Numbered, end_of_numbers, due, Settings, no_accesses, RecordsView, NoneAfter, ltb, next}
 use Rattle.std.proofs.Common.{lt-ltb}
-use Rattle.std.proofs.lemmas.Bool.{ltb-false}
 use Rattle.bb8_core.specs.StateView.{IsAsBefore, Meets, ReportsFitting}
 use Rattle.std.proofs.lemmas.Option.{slice_get_within}
-use Rattle.bb8_types.specs.Places.{held_in, first_of, first_place}
-use Rattle.bb8_types.specs.declared.standing.GetPlace.TheVariants.{Waiting}
+use Rattle.bb8_types.specs.Places.{first_of, first_place}
 use Rattle.bb8_ledger.specs.Ledger.{idle}
 use Rattle.bb8_ledger.proofs.Facts.{idle_tally}
 use Rattle.bb8_ledger.proofs.Invalid.{few_ended}
@@ -15,8 +14,7 @@ use Rattle.bb8_types.proofs.Numbered as numbered
 
 -- a get that holds a connection may hand it in, and another get none
 handing_in : (o : Option Getting) (k : ℕ) → holds o ≡ Some k → (is_some o && agree true (is_some (holds o))) ≡ true
-handing_in None k held = absurd (let clash : None ≡ Some k = held in cc)
-handing_in (Some x) k held = ap is_some held
+handing_in o k held = grind (arith, nat_tests)
 
 handing_none : (o : Option Getting) → holds o ≡ None → (is_some o && agree true (is_some (holds o))) ≡ false
 handing_none None none = refl
@@ -25,20 +23,11 @@ handing_none (Some x) none = ap is_some none
 -- one that holds nothing may try
 giving_none : (o : Option Getting) → (is_some o && agree false (is_some (holds o))) ≡ gets_stand is_trying o
 giving_none None = refl
-giving_none (Some x) = each x.place
-  where
-    each : (p : GetPlace) → agree false (is_some (held_in p)) ≡ is_trying p
-    each Active = refl
-    each (Waiting notified) = refl
-    each (Holding k) = refl
+giving_none (Some x) = grind (arith, nat_tests)
 
 -- a get that was found to try is alive
 pub trying_stands : {o p : Option Getting} {b : Bool} → o ≡ p → b ≡ gets_stand is_trying o → b ≡ true → (st : Getting) × (p ≡ Some st)
-trying_stands {o} get_is b_is on = let st = each o (sym b_is ∙ on) in (st.0, sym get_is ∙ st.1)
-  where
-    each : (x : Option Getting) → gets_stand is_trying x ≡ true → (st : Getting) × (x ≡ Some st)
-    each None e = cc
-    each (Some st) e = (st, refl)
+trying_stands {o} get_is b_is on = grind (arith, nat_tests)
 
 -- and in no line, where it was found not to wait, or to be notified
 pub trying_off : {o p : Option Getting} {b n : Bool} → o ≡ p → b ≡ gets_stand is_trying o → b ≡ true → n ≡ gets_stand is_unnotified o → n ≡ false
@@ -78,10 +67,7 @@ module _ {C : Type 0} where
 
   -- so no birth and no entry of what a state shows lies after the moment of its next event
   pub none_after : (s : StateView C) (at now : ℕ) → HasLedger s → now ≡ max s.latest at → NoneAfter now s.records
-  none_after s at now h now_is k r e =
-      let none = none_later h.0 k r (shown_record h.0 s h.2 k ∙ e) in
-      let same : latest h.0 ≡ s.latest = ap (λ (t : StateView C). t.latest) h.2 in
-      (omega (arith, none.0), omega (arith, none.1))
+  none_after s at now h now_is k r e = grind (arith, nat_tests, none_later h.0 k r, shown_record h.0 s h.2 k)
 
   pub shown_get : (l : Ledger C) (s : StateView C) → Represents l s → (g : ℕ) → get_of l g ≡ get s.gets.places g
   shown_get l s is g = sym (numbered.get-numbered (λ (r : Numbered Getting). r.standing) (gets l) (start l).first_get g) ∙ ap (λ (t : StateView C). get t.gets.places g) is
@@ -98,15 +84,13 @@ module _ {C : Type 0} where
   pub due_within : (config : Settings) (handles : ℕ) {taken was : RecordsView C} {n : ℕ} (asked : ℕ)
       → was.conns + was.approved ≤ config.max_size → taken ≡ was → n ≡ due config handles (taken.conns + taken.approved) asked
       → taken.conns + taken.approved + n ≤ config.max_size
-  due_within config handles {taken} {was} {n} asked few taken_is n_is =
-      omega (arith, ap (λ (t : RecordsView C). t.conns + t.approved) taken_is, due_few config handles (taken.conns + taken.approved) asked)
+  due_within config handles {taken} {was} {n} asked few taken_is n_is = grind (arith, nat_tests, due_few config handles (taken.conns + taken.approved) asked)
 
   -- It is so, too, where what is taken is no more than what a state shows.
   pub due_fits : (s : StateView C) {taken was : RecordsView C} {used n : ℕ} (asked : ℕ) → HasLedger s
       → was.conns + was.approved ≤ s.records.conns + s.records.approved → taken ≡ was → used ≡ taken.conns + taken.approved
       → n ≡ due s.config s.handles used asked → taken.conns + taken.approved + n ≤ s.config.max_size
-  due_fits s {was = was} asked h few taken_is used_is n_is = due_within s.config s.handles {was = was} asked (omega (arith, few, (shown_fits s h).size)) taken_is (n_is
-      ∙ ap (λ (u : ℕ). due s.config s.handles u asked) used_is)
+  due_fits s {was = was} asked h few taken_is used_is n_is = grind (arith, nat_tests, due_within s.config s.handles, shown_fits s)
 
   -- connections that were closed as invalid, or idled out, are no more than the numbers that are
   -- free
@@ -115,16 +99,7 @@ module _ {C : Type 0} where
 
   -- the record that a get holds is out
   pub held_record : (l : Ledger C) (g k : ℕ) → IsLegal l → holds (get_of l g) ≡ Some k → (st : Standing C) × (record_of l k ≡ Some st) × (is_out st.place ≡ true)
-  held_record l g k legal held =
-      let st = standing_is (is_held_by g) (record_of l k) (all_held l legal g k held) in
-      (st.0, st.1, held_out st.0.place st.2)
-    where
-      held_out : (p : Place C) → is_held_by g p ≡ true → is_out p ≡ true
-      held_out Unclaimed e = cc
-      held_out Claimed e = cc
-      held_out (Idle c) e = cc
-      held_out (Held h) e = refl
-      held_out Guarded e = refl
+  held_record l g k legal held = grind (arith, nat_tests, standing_is (is_held_by g) (record_of l k) (all_held l legal g k held), all_held l legal g k held)
 
   -- ---- a record that was found in such a state, or not
 
@@ -141,9 +116,7 @@ module _ {C : Type 0} where
 
   -- where there is a connection, there is one
   conn_some : (k : ℕ) (s : StateView C) → HasLedger s → (st : Standing C) × (get s.records.places k ≡ Some st) × (is_conn st.place ≡ true) → 1 ≤ s.records.conns
-  conn_some k s h st =
-      let some : 1 ≤ conns h.0 = conn_counted h.0 k st.0 (shown_record h.0 s h.2 k ∙ st.1) st.2 in
-      subst (λ (t : StateView C). 1 ≤ t.records.conns) h.2 some
+  conn_some k s h st = grind (arith, nat_tests, conn_counted h.0 k st.0, shown_record h.0 s h.2 k)
 
   out_some : (k : ℕ) (s : StateView C) → HasLedger s → (st : Standing C) × (get s.records.places k ≡ Some st) × (is_out st.place ≡ true) → 1 ≤ s.records.conns
   out_some k s h st = conn_some k s h (st.0, st.1, conn_from false st.0.place st.2)
@@ -151,21 +124,11 @@ module _ {C : Type 0} where
   -- its number is one that was given
   pub number_few : {P : Standing C → Type 0} (k : ℕ) (s : StateView C) → HasLedger s → (st : Standing C) × (get s.records.places k ≡ Some st) × P st
       → s.records.next ≤ end_of_numbers → k < end_of_numbers
-  number_few k s h st few = subst (λ (t : StateView C). t.records.next ≤ end_of_numbers → k < end_of_numbers) h.2 (go (ltb k (next h.0)) refl) few
-    where
-      go : (b : Bool) → ltb k (next h.0) ≡ b → next h.0 ≤ end_of_numbers → k < end_of_numbers
-      go true on most = omega (arith, ltb-true k (next h.0) on)
-      go false off most = absurd (
-          let none : record_of h.0 k ≡ None = ap (option_and_then (λ (r : Numbered (Standing C)). r.standing)) (numbered.at-past (records h.0) (start h.0).first k (ltb-false k (next h.0) off)) in
-          let clash : None ≡ Some st.0 = sym none ∙ shown_record h.0 s h.2 k ∙ st.1 in cc
-          )
+  number_few k s h st few = grind (arith, nat_tests, numbered.at-past (records h.0) (start h.0).first k, shown_record h.0 s h.2 k)
 
   -- a connection more may be counted as created, and as closed
   pub created_few : (s : StateView C) (k : ℕ) → HasLedger s → stands is_claimed (get s.records.places k) ≡ true → s.records.next ≤ end_of_numbers → s.counts.created < end_of_numbers
-  created_few s k h on few =
-      let st = standing_is is_claimed (get s.records.places k) on in
-      let some : 1 ≤ approved h.0 = claimed_counted h.0 k st.0 (shown_record h.0 s h.2 k ∙ st.1) (claimed_is st.0.place st.2) in
-      omega (arith, subst (λ (t : StateView C). 1 ≤ t.records.approved) h.2 some, (shown_fits s h).created_few)
+  created_few s k h on few = grind (arith, nat_tests, standing_is is_claimed (get s.records.places k) on, claimed_counted h.0 k, shown_record h.0 s h.2 k, claimed_is, shown_fits s h)
 
   pub closed_few : (k : ℕ) (s : StateView C) → HasLedger s → (st : Standing C) × (get s.records.places k ≡ Some st) × (is_out st.place ≡ true)
       → s.records.next ≤ end_of_numbers → s.counts.broken + s.counts.retired + s.counts.max_lifetime + s.counts.detached < end_of_numbers
@@ -184,9 +147,14 @@ module _ {C : Type 0} where
 
   -- where a handle leaves, one is alive
   pub fit_leave : {s t : StateView C} → s ≡ t → HasLedger s → IsFitting t Leave → 1 ≤ s.handles
-  fit_leave is h fit =
-      let some : 0 < handles h.0 = ltb-true 0 (handles h.0) (fit h.0 h.1 (as_shown h.0 is h.2)) in
-      subst (λ (x : StateView C). 1 ≤ x.handles) h.2 (omega arith)
+  fit_leave is h fit = grind (arith, nat_tests, ltb-true 0 (handles h.0) (fit h.0 h.1 (as_shown h.0 is h.2)), as_shown h.0 is h.2)
+
+  -- while a handle is alive, a get may begin; otherwise none may
+  pub fit_alive : (s : StateView C) → s.handles ≢ 0 → IsFitting s Begin
+  fit_alive s some l legal means = lt-ltb 0 (handles l) (omega (arith, ap (λ (x : StateView C). x.handles) means, some))
+
+  pub unfit_alone : {s t : StateView C} → s ≡ t → s.handles ≡ 0 → ReportsFitting t Begin false
+  unfit_alone is none l legal means = sym (ap (ltb 0) (ap (λ (x : StateView C). x.handles) (means ∙ sym is) ∙ none))
 
   -- while a connection is idle, a handle is alive
   pub fit_idle : (s : StateView C) (k : ℕ) → first_of s.config.queue_strategy s.records.idle ≡ Some k → IsFitting s Leave
@@ -205,10 +173,7 @@ module _ {C : Type 0} where
   -- a get that is alive has not been counted as ended, so it may be
   pub ended_few : (s : StateView C) (g : ℕ) → HasLedger s → (st : Getting) × (get s.gets.places g ≡ Some st) → s.gets.next ≤ end_of_numbers
       → s.counts.direct + s.counts.waited + s.counts.timed_out + s.counts.cancelled < end_of_numbers
-  ended_few s g h st few =
-      let some : 1 ≤ alive h.0 = alive_is h.0 g st.0 (shown_get h.0 s h.2 g ∙ st.1) in
-      let fit = shown_fits s h in
-      omega (arith, subst (λ (t : StateView C). 1 ≤ t.gets.alive) h.2 some, fit.answered, fit.started_few)
+  ended_few s g h st few = grind (arith, nat_tests, alive_is h.0 g st.0, shown_get h.0 s h.2 g, shown_fits s h)
 
   -- ---- a get that was found to hold a connection, or none
 
@@ -219,9 +184,7 @@ module _ {C : Type 0} where
   unfit_held s g none l legal means = sym (ap is_some (ap (λ (x : Option Getting). holds x) (shown_get l s means g) ∙ none))
 
   pub held_out : (s : StateView C) (g k : ℕ) → HasLedger s → holds (get s.gets.places g) ≡ Some k → (st : Standing C) × (get s.records.places k ≡ Some st) × (is_out st.place ≡ true)
-  held_out s g k h held =
-      let st = held_record h.0 g k h.1 (ap (λ (x : Option Getting). holds x) (shown_get h.0 s h.2 g) ∙ held) in
-      (st.0, sym (shown_record h.0 s h.2 k) ∙ st.1, st.2)
+  held_out s g k h held = grind (arith, nat_tests, held_record h.0 g k h.1, shown_get h.0 s h.2 g, shown_record h.0 s h.2 k)
 
   -- it may hand that connection in, and another get none
   pub fits_give_back : (s : StateView C) (g k : ℕ) (why : Reason) (c : C) (broken : Bool) → holds (get s.gets.places g) ≡ Some k → IsFitting s (GiveUp g why (Some c) broken)

@@ -1,6 +1,7 @@
 -- The steps at which a get releases what it holds, or ends without being served: both ends of a
 -- check, and a give-up.
-use Rattle.bb8_core.proofs.Words.{◌≡◌, ℕ, suc, ◌+◌, ◌*◌, max, min, Bool, true, false, not, eqb, ◌&&◌, ◌||◌, cond, List, Option, Some, None, slice_get, refl, sym, ap, ◌∙◌, IfSome, get, Grant, Idle, Active, Getting, Counters, reason_of, counts_held, Counts, CheckedOk, CheckedErr, GiveUp, Served, Kept, Closed, GaveUp, Numbered, update, in_order, standing_at, one, after_end, Ledger, Later, start, position, latest, records, gets, peak, get_peak, get_of, counts, wait_micros, broken, timed_out, cancelled, with_notice, get_at_place, unnotified_at, oldest_waiter, waiting, expires, holds, first_wait_of, is_notified, is_unnotified, gets_stand, micros_since, checks, check_fails, gives_up, gives_up_kept, gives_up_closed, StateView, IsFitting, RecordsView, GetsView, waited_before, peak_holds, get_peak_holds, holding_is, most_micros, is_doubtful, ltb, retired}
+use Rattle.std.proofs.lemmas.Bool.Decides.{nat_tests}
+use Rattle.bb8_core.proofs.Words.{◌≡◌, ℕ, suc, ◌+◌, ◌*◌, max, min, Bool, true, false, not, eqb, ◌&&◌, ◌||◌, cond, List, Option, Some, None, slice_get, refl, sym, ap, ◌∙◌, IfSome, get, Grant, Idle, Active, Getting, Counters, reason_of, counts_held, Counts, CheckedOk, CheckedErr, GiveUp, Served, Kept, Closed, GaveUp, Numbered, update, in_order, standing_at, one, after_end, Ledger, Later, start, position, latest, records, gets, peak, get_peak, get_of, counts, wait_micros, broken, timed_out, cancelled, with_notice, get_at_place, unnotified_at, oldest_waiter, waiting, expires, holds, first_wait_of, is_notified, is_unnotified, gets_stand, micros_since, checks, check_fails, gives_up, gives_up_kept, gives_up_closed, StateView, IsFitting, RecordsView, GetsView, waited_before, peak_holds, get_peak_holds, holding_is, most_micros, is_doubtful, ltb, retired, arith}
 use Rattle.bb8_types.specs.declared.reasons.Reason.{Reason as Named}
 use Rattle.bb8_types.specs.declared.reasons.Reason.TheVariants as reasons
 use Rattle.bb8_tables.specs.Machine as machine
@@ -55,12 +56,7 @@ module _ {C : Type 0} where
   told_shown : (l : Ledger C) (g : ℕ) (f : Numbered Getting → Numbered Getting) (b : Bool) (n : Option ℕ) (after : GetsView)
       → next_gets l (update (start l).first_get g f (gets l)) ≡ after → n ≡ cond b (slice_get after.waiting 0) None
       → next_gets l (with_notice (start l).first_get n (update (start l).first_get g f (gets l))) ≡ machine.after_notice n after
-  told_shown l g f b n after is n_is =
-      let out : List (Numbered Getting) = update (start l).first_get g f (gets l) in
-      let named : IfSome n (λ k. (x : Getting) × (standing_at (start l).first_get out k ≡ Some x)) =
-      named_stands (start l).first_get (suc (position l)) out b n
-      (n_is ∙ ap (λ (x : GetsView). cond b (slice_get x.waiting 0) None) (sym is)) in
-      noticed_later (start l).first_get (suc (position l)) (get_peak l) out n named ∙ ap (machine.after_notice n) is
+  told_shown l g f b n after is n_is = grind (arith, nat_tests, named_stands (start l).first_get (suc (position l)), noticed_later (start l).first_get (suc (position l)) (get_peak l))
 
   -- a get that ends
   ended_gets : (l : Ledger C) (g : ℕ) (st : Getting) → get_of l g ≡ Some st → next_gets l (update (start l).first_get g after_end (gets l)) ≡ machine.after_get_end g (shown l).gets
@@ -87,8 +83,7 @@ module _ {C : Type 0} where
   -- the oldest waiter is the first of those that are left
   oldest_left : (l : Ledger C) (g k : ℕ) (n : Option ℕ) → holds (get_of l g) ≡ Some k → n ≡ slice_get (machine.after_get_end g (shown l).gets).waiting 0 → n ≡ oldest_waiter l
   oldest_left l g k n held n_is =
-      let st = holding_is (get_of l g) k held in
-      n_is ∙ ap (λ (xs : List ℕ). slice_get xs 0) (without_other (start l).first_get (position l) (gets l) g st.0 st.1 (ap is_unnotified st.2))
+      grind (arith, nat_tests, holding_is (get_of l g) k held, without_other (start l).first_get (position l) (gets l) g (holding_is (get_of l g) k held).0 (holding_is (get_of l g) k held).1)
 
   -- the check was passed
   pub meets_passed : {s : StateView C} {at g k now : ℕ} {o : Option Getting} {since : Option ℕ} {rs : RecordsView C} {gs : GetsView}
@@ -161,24 +156,15 @@ module _ {C : Type 0} where
 
   count_given_up : (l : Ledger C) (at g : ℕ) (reason : Named) (was : Counters) → counts l ≡ counts_held was
       → given_up_counts l at g reason ≡ counts_held (given_up reason (max (latest l) at) (first_wait_of (get (shown l).gets.places g)) was)
-  count_given_up l at g reasons.TimedOut was were =
-      ap (λ (x : Counts). record x { timed_out = x.timed_out + 1; wait_time = 1000 * min most_micros (wait_micros l + micros_since (max (latest l) at) (first_wait_of (get_of l g))) }) were
-      ∙ ap (λ (m : ℕ). record (counts_held was) {
-        timed_out = was.timed_out + 1;
-        wait_time = 1000 * min most_micros (m + micros_since (max (latest l) at) (first_wait_of (get_of l g)));
-      }) (same_micros l was were)
-      ∙ ap (λ (o : Option Getting). counts_held (given_up reasons.TimedOut (max (latest l) at) (first_wait_of o) was)) (shown_get l (shown l) refl g)
-  count_given_up l at g reasons.Cancelled was were = ap (λ (x : Counts). record x { cancelled = x.cancelled + 1 }) were
+  count_given_up l at g reason was were = grind (arith, nat_tests, same_micros l, shown_get l (shown l))
 
   count_gave_up : (l : Ledger C) (at g : ℕ) (reason : Named) (broken : Bool) (n : Option ℕ)
       → counts (Later l at (GiveUp g (reason_of reason) None broken) (GaveUp n)) ≡ given_up_counts l at g reason
-  count_gave_up l at g reasons.TimedOut broken n = refl
-  count_gave_up l at g reasons.Cancelled broken n = refl
+  count_gave_up l at g reason broken n = grind (arith, nat_tests)
 
   count_kept : (l : Ledger C) (at g k : ℕ) (reason : Named) (c : C) (broken : Bool) (n : Option ℕ)
       → counts (Later l at (GiveUp g (reason_of reason) (Some c) broken) (Kept k n)) ≡ given_up_counts l at g reason
-  count_kept l at g k reasons.TimedOut c broken n = refl
-  count_kept l at g k reasons.Cancelled c broken n = refl
+  count_kept l at g k reason c broken n = grind (arith, nat_tests)
 
   count_closed : (l : Ledger C) (at g k : ℕ) (reason : Named) (c : C) (broken : Bool) (grant : Grant) (n : Option ℕ)
       → counts (Later l at (GiveUp g (reason_of reason) (Some c) broken) (Closed k grant n)) ≡ with_closing
@@ -189,19 +175,13 @@ module _ {C : Type 0} where
   -- the counters after a give-up, by what is shown
   given_up_shown : (s : StateView C) (at g : ℕ) (reason : Named) (was : Counters) {now : ℕ} {o : Option Getting} {since : Option ℕ} {is : Counters} → now ≡ max s.latest at → o ≡ get s.gets.places g
       → since ≡ first_wait_of o → is ≡ given_up reason now since was → is ≡ given_up reason (max s.latest at) (first_wait_of (get s.gets.places g)) was
-  given_up_shown s at g reason was {since = since} now_is get_is since_is counted =
-      counted ∙ ap (λ (m : ℕ). given_up reason m since was) now_is
-      ∙ ap (λ (x : Option ℕ). given_up reason (max s.latest at) x was) (since_is ∙ ap (λ (x : Option Getting). first_wait_of x) get_is)
+  given_up_shown s at g reason was {since = since} now_is get_is since_is counted = grind (arith, nat_tests)
 
   -- whom a give-up notifies is the oldest waiter, where the get had been notified
   handed_is : (l : Ledger C) (g : ℕ) (st : Getting) (n : Option ℕ) → get_of l g ≡ Some st
       → n ≡ cond (is_notified st.place) (slice_get (machine.without g (waiting l)) 0) None
       → n ≡ cond (is_notified st.place) (oldest_waiter l) None
-  handed_is l g st n is n_is = go (is_notified st.place) refl n_is
-    where
-      go : (b : Bool) → is_notified st.place ≡ b → n ≡ cond b (slice_get (machine.without g (waiting l)) 0) None → n ≡ cond b (oldest_waiter l) None
-      go true on e = e ∙ ap (λ (xs : List ℕ). slice_get xs 0) (without_other (start l).first_get (position l) (gets l) g st is (notified_out st.place on))
-      go false off e = e
+  handed_is l g st n is n_is = grind (arith, nat_tests, without_other (start l).first_get (position l) (gets l) g st is, notified_out st.place)
 
   -- no connection is handed in, and whether it is broken does not matter
   pub meets_given_up : {s : StateView C} {at g : ℕ} (reason : Named) (broken : Bool) {now : ℕ} {o : Option Getting} {since : Option

@@ -1,5 +1,6 @@
 -- A get that was notified may try, and what its try comes to.
-use Rattle.bb8_core.proofs.Words.{◌≡◌, ◌∙◌, ℕ, Bool, true, false, Option, None, Some, IfSome, refl, sym, ap, subst, MatchBool, Try, Unfit, Answer, Act, Ledger, Later, Row, fits, IsLegal, StateView, HasLedger, IsFitting}
+use Rattle.std.proofs.lemmas.Bool.Decides.{nat_tests}
+use Rattle.bb8_core.proofs.Words.{◌≡◌, ◌∙◌, ℕ, Bool, true, Option, None, Some, IfSome, sym, subst, MatchBool, Try, Unfit, Answer, Act, Ledger, Later, Row, fits, IsLegal, StateView, HasLedger, IsFitting, arith}
 use Rattle.bb8_tables.specs.declared.keys.GetKey.{GetKey}
 use Rattle.bb8_core.specs.declared.answers.TryAnswer.{TryAnswer}
 use Rattle.bb8_core.specs.StepAnswers.{answer_of_try}
@@ -7,21 +8,18 @@ use Rattle.bb8_core.specs.StateView.{Meets, Represents, Steps}
 use Rattle.bb8_tables.specs.Keys.{notified_of}
 use Rattle.bb8_core.specs.HandedOver.{Follows, HandsOn, StepsAndTries, StaysPrompt}
 use Rattle.bb8_ledger.specs.Handed.{notified_by}
-use Rattle.bb8_ledger.proofs.Handed.{told_tries, handed_over, prompt_then, prompt_tried}
+use Rattle.bb8_ledger.proofs.Handed.{told_tries, handed_over}
 use Rattle.bb8_core.proofs.Runs.{shown_try}
 
 -- an answer that notifies, of an event that is allowed, is a row of the table
 told_row : (b : Bool) (P : Type 0) (a : Answer) (g : ℕ) → MatchBool b P (a ≡ Unfit) → notified_by a ≡ Some g → P × (b ≡ true)
-told_row true P a g p outcome = (p, refl)
-told_row false P a g p outcome = absurd (let clash : None ≡ Some g = sym (ap notified_by p) ∙ outcome in cc)
+told_row b P a g p outcome = grind (arith, nat_tests)
 
 module _ {C : Type 0} where
   -- on a legal ledger that the state represents, the get may try
   tries_on : {s t : StateView C} (at g : ℕ) (e : Act C) (a : Answer) (l : Ledger C) → IsLegal l → Represents l s → Meets s at e a t → notified_by a ≡ Some g
       → Row l at e a × (fits l e ≡ true) × (fits (Later l at e a) (Try g) ≡ true)
-  tries_on at g e a l legal means step outcome =
-      let row = told_row (fits l e) _ a g (step l legal means).0 outcome in
-      (row.0, row.1, told_tries l at e a g row.1 row.0 outcome)
+  tries_on at g e a l legal means step outcome = grind (arith, nat_tests, told_row (fits l e), told_tries l)
 
   may_try : {s t : StateView C} (at g : ℕ) (e : Act C) (a : Answer) → HasLedger s → Meets s at e a t → notified_by a ≡ Some g → IsFitting t (Try g)
   may_try {s} {t} at g e a h step outcome later legal means =
@@ -46,8 +44,7 @@ module _ {C : Type 0} where
   no_row l at g r = elim r [ ]
 
   pub made_once_fitting : {s t : StateView C} {G : Type 0} (at g : ℕ) → IsFitting s (Try g) → Steps s at (Try g) Unfit t → G
-  made_once_fitting at g fit ((h, limits), step) =
-      absurd (no_row h.0 at g (subst (λ (b : Bool). MatchBool b (Row h.0 at (Try g) Unfit) (Unfit ≡ Unfit)) (fit h.0 h.1 h.2) (step h.0 h.1 h.2).0))
+  made_once_fitting at g fit ((h, limits), step) = grind (arith, nat_tests, no_row h.0)
 
   -- and a step and this try are a hand-off
   pub hands_over : {s t : StateView C} (u : StateView C) (at : ℕ) (e : Act C) (a : Answer) (n : Option GetKey) (o : Option (TryAnswer C))
@@ -59,15 +56,4 @@ module _ {C : Type 0} where
 
   -- so a prompt history stays prompt
   pub stays_prompt : (s u : StateView C) (o : Option (TryAnswer C)) (at : ℕ) (e : Act C) (a : Answer) → StepsAndTries o s at e a u → StaysPrompt o s at e a
-  stays_prompt s u None at e a h = λ l legal means. prompt_then l at e a (h.0.1 l legal means).0 h.1
-  stays_prompt s u (Some tried) at e a (g, outcome, between, (within, step), (still, next), out, on) = (
-    g,
-    outcome,
-    λ l legal means.
-        let row = tries_on at g e a l legal means step outcome in
-        let now = step l legal means in
-        let later : IsLegal (Later l at e a) = (legal, now.0) in
-        let tries : Row (Later l at e a) at (Try g) (answer_of_try tried) =
-        subst (λ (x : Bool). MatchBool x (Row (Later l at e a) at (Try g) (answer_of_try tried)) (answer_of_try tried ≡ Unfit)) row.2 (next (Later l at e a) later now.1).0 in
-        prompt_tried l at at g e a (answer_of_try tried) row.0 outcome tries,
-  )
+  stays_prompt s u o at e a h = grind (arith, nat_tests)

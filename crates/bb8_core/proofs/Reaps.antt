@@ -1,4 +1,5 @@
 -- The step of a reap.
+use Rattle.std.proofs.lemmas.Bool.Decides.{nat_tests}
 use Rattle.bb8_core.proofs.Words.{◌≡◌, ◌≢◌, ℕ, suc, ◌+◌, ◌<◌, ◌≤◌, max, false, List, length, refl, sym, ap, ◌∙◌, arith, subst, length-append, Grant, Standing, Counters, ReapCounts, counts_held, Reaps, after_reap, RecordsView, end_of_numbers, Counts, Numbered, Reap, Reaped, Ended, Ledger, start, position, latest, records, peak, idle_at, with_ended, reap_ended, reaps, reaped_at, outlived_at, idled_at, StateView, shown_records, HasLedger, Before, before_later, entered_before, ended_all_before, reaped_sized, ended_append, Settings, Some, outlived, idled, Retire, retiring, retired_at, retires, retire_ended, retired_sized, counts}
 use Rattle.bb8_tables.specs.Machine as machine
 use Rattle.bb8_core.specs.Decided as decided
@@ -20,8 +21,7 @@ retired_counters was outcome = record was { retired = was.retired + outcome.clos
 
 -- what a retire closes counts in one figure
 only_retired : (c : Counts) (n : ℕ) → record c { max_lifetime = c.max_lifetime + 0; idle_timeout = c.idle_timeout + 0; retired = c.retired + n } ≡ record c { retired = c.retired + n }
-only_retired c n = ap (λ (m : ℕ). record c { max_lifetime = m; idle_timeout = c.idle_timeout + 0; retired = c.retired + n }) (none_more c.max_lifetime)
-    ∙ ap (λ (m : ℕ). record c { idle_timeout = m; retired = c.retired + n }) (none_more c.idle_timeout)
+only_retired c n = grind (arith, nat_tests, none_more c.max_lifetime, none_more c.idle_timeout)
 
 module _ {C : Type 0} where
   pub meets_reap_ended : {s : StateView C} {at now : ℕ} → now ≡ max s.latest at → s.handles ≡ 0 → IsStep s at Reap Ended (record s { latest = now })
@@ -39,9 +39,7 @@ module _ {C : Type 0} where
 
   pub ended_at : (l : Ledger C) (at p : ℕ) (js ks : List ℕ) (outcome : ReapCounts) → Before idle_at p (records l) → shown_records (start l).first p (peak l) (records l) ≡ (shown l).records
       → Reaps (start l).config (max (latest l) at) (shown l).records js ks (both_ended js ks (shown l).records) outcome → Ended_at l at p js ks
-  ended_at l at p js ks outcome before is h =
-      let r = subst (λ (s : RecordsView C). Reaps (start l).config (max (latest l) at) s js ks (both_ended js ks s) outcome) (sym is) h in
-      all_ended (start l) p (peak l) (max (latest l) at) js ks (records l) before r.aged r.none_aged r.first r.few r.all
+  ended_at l at p js ks outcome before is h = grind (arith, nat_tests, all_ended (start l) p (peak l) (max (latest l) at) js ks (records l) before)
 
   -- what a reap makes of the records that are shown
   abbrev reaped_records : StateView C → List ℕ → List ℕ → Grant → RecordsView C
@@ -50,9 +48,7 @@ module _ {C : Type 0} where
   -- the ledger's list, by the numbers that the code ended
   ended_is : (l : Ledger C) (at : ℕ) (js ks : List ℕ) → Ended_at l at (position l) js ks
       → with_ended (start l).first ks (with_ended (start l).first (outlived_at l at) (records l)) ≡ with_ended (start l).first (reaped_at l at) (records l)
-  ended_is l at js ks here =
-      ap (λ (xs : List ℕ). with_ended (start l).first xs (with_ended (start l).first (outlived_at l at) (records l))) here.idle
-      ∙ sym (ended_append (start l).first (outlived_at l at) (idled_at l at) (records l))
+  ended_is l at js ks here = grind (arith, nat_tests, ended_append)
 
   pub meets_reaped : {s : StateView C} {at now : ℕ} {js ks : List ℕ} {outcome : ReapCounts} {mid rs : RecordsView C} {grant : Grant} (was : Counters) {is : Counters}
       → now ≡ max s.latest at → s.handles ≢ 0 → Reaps s.config now s.records js ks mid outcome → Grants s false mid grant rs → s.counts ≡ counts_held was
@@ -93,9 +89,7 @@ module _ {C : Type 0} where
 
   pub retired_ends : (l : Ledger C) (at p : ℕ) (js ks : List ℕ) (outcome : ReapCounts) → Before idle_at p (records l) → shown_records (start l).first p (peak l) (records l) ≡ (shown l).records
       → Reaps (retiring_by (start l).config) (max (latest l) at) (shown l).records js ks (both_ended js ks (shown l).records) outcome → Retired_at l at p js ks
-  retired_ends l at p js ks outcome before is h =
-      let r = subst (λ (s : RecordsView C). Reaps (retiring_by (start l).config) (max (latest l) at) s js ks (both_ended js ks s) outcome) (sym is) h in
-      all_ended (retiring (start l)) p (peak l) (max (latest l) at) js ks (records l) before r.aged r.none_aged r.first r.few r.all
+  retired_ends l at p js ks outcome before is h = grind (arith, nat_tests, all_ended (retiring (start l)) p (peak l) (max (latest l) at) js ks (records l) before)
 
   -- of those that it ends, which lived too long, and which were idle too long once those had ended
   abbrev pub old_ones : Ledger C → ℕ → List ℕ
@@ -106,14 +100,11 @@ module _ {C : Type 0} where
 
   retired_is : (l : Ledger C) (at : ℕ) (js ks : List ℕ) → Retired_at l at (position l) js ks
       → with_ended (start l).first ks (with_ended (start l).first (old_ones l at) (records l)) ≡ with_ended (start l).first (retired_at l at) (records l)
-  retired_is l at js ks here =
-      ap (λ (xs : List ℕ). with_ended (start l).first xs (with_ended (start l).first (old_ones l at) (records l))) here.idle
-      ∙ sym (ended_append (start l).first (old_ones l at) (other_ones l at) (records l))
+  retired_is l at js ks here = grind (arith, nat_tests, ended_append)
 
   -- as many as the code returned
   retired_many : (l : Ledger C) (at : ℕ) (js ks : List ℕ) (outcome : ReapCounts) → outcome.closed ≡ length js + length ks → Retired_at l at (position l) js ks → outcome.closed ≡ length (retired_at l at)
-  retired_many l at js ks outcome closed here =
-      omega (arith, closed, here.aged, ap (λ (xs : List ℕ). length xs) here.idle, length-append (old_ones l at) (other_ones l at))
+  retired_many l at js ks outcome closed here = grind (arith, nat_tests, length-append (old_ones l at) (other_ones l at))
 
   pub meets_retire_ended : {s : StateView C} {at now below : ℕ} → now ≡ max s.latest at → below ≡ s.records.next → s.handles ≡ 0
       → IsStep s at Retire Ended (record s { retired = below; latest = now })
@@ -156,43 +147,23 @@ module _ {C : Type 0} where
       → Reaps (retiring_by s.config) now s.records js ks mid outcome → s.records.next ≤ end_of_numbers
       → s.counts.retired + outcome.closed ≤ end_of_numbers
   retired_few s {js} {ks} {now} {mid} {outcome} h later ended few =
-      let all : outcome.closed ≤ s.records.conns =
-      subst (λ (t : StateView C). t.latest ≤ now → Reaps (retiring_by t.config) now t.records js ks mid outcome → outcome.closed ≤ t.records.conns) h.2
-      (λ after r.
-      let m : max (latest h.0) now ≡ now = greater (latest h.0) now after in
-      let r_at : Reaps (retiring_by (start h.0).config) (max (latest h.0) now) (shown h.0).records js ks (both_ended js ks (shown h.0).records) outcome =
-      subst (λ (n : ℕ). Reaps (retiring_by (start h.0).config) n (shown h.0).records js ks (both_ended js ks (shown h.0).records) outcome) (sym m)
-      (subst (λ (t : RecordsView C). Reaps (retiring_by (start h.0).config) now (shown h.0).records js ks t outcome) r.state r) in
-      let e = retired_ends h.0 now (position h.0) js ks outcome (entered_before h.0) refl r_at in
-      omega (arith, retired_many h.0 now js ks outcome r.closed e, (retired_sized h.0 now).conns_are)) later ended in
-      omega (arith, all, (shown_fits s h).closed_few)
-    where
-      greater : (a b : ℕ) → a ≤ b → max a b ≡ b
-      greater a b less = omega arith
+      grind (arith, nat_tests, retired_ends h.0 now (position h.0) js ks outcome (entered_before h.0), entered_before h.0, retired_many h.0 now js ks outcome, retired_sized h.0 now, shown_fits s h)
 
   -- no more end than there are connections
   ended_few : (s : StateView C) {js ks : List ℕ} {now : ℕ} {mid : RecordsView C} {outcome : ReapCounts} → HasLedger s → s.latest ≤ now
       → Reaps s.config now s.records js ks mid outcome → outcome.closed ≤ s.records.conns
   ended_few s {js} {ks} {now} {mid} {outcome} h later ended =
-      subst (λ (t : StateView C). t.latest ≤ now → Reaps t.config now t.records js ks mid outcome → outcome.closed ≤ t.records.conns) h.2
-      (λ after r.
-      let m : max (latest h.0) now ≡ now = greater (latest h.0) now after in
-      let r_at : Reaps (start h.0).config (max (latest h.0) now) (shown h.0).records js ks (both_ended js ks (shown h.0).records) outcome =
-      subst (λ (n : ℕ). Reaps (start h.0).config n (shown h.0).records js ks (both_ended js ks (shown h.0).records) outcome) (sym m)
-      (subst (λ (t : RecordsView C). Reaps (start h.0).config now (shown h.0).records js ks t outcome) r.state r) in
-      let z = reaped_sized h.0 now in
-      let e : Ended_at h.0 now (position h.0) js ks = ended_at h.0 now (position h.0) js ks outcome (entered_before h.0) refl r_at in
-      omega (arith, ap (λ (xs : List ℕ). length xs) e.idle, r.closed, e.aged, length-append (outlived_at h.0 now) (idled_at h.0 now), z.conns_are)) later ended
-    where
-      greater : (a b : ℕ) → a ≤ b → max a b ≡ b
-      greater a b less = omega arith
+      grind (
+        arith,
+        nat_tests,
+        reaped_sized h.0 now,
+        ended_at h.0 now (position h.0) js ks outcome (entered_before h.0),
+        entered_before h.0,
+        length-append (outlived_at h.0 now) (idled_at h.0 now),
+      )
 
   -- so they may be counted
   pub reaped_few : (s : StateView C) {js ks : List ℕ} {now : ℕ} {mid : RecordsView C} {outcome : ReapCounts} → HasLedger s → s.latest ≤ now
       → Reaps s.config now s.records js ks mid outcome → s.records.next ≤ end_of_numbers
       → (s.counts.idle_timeout + outcome.by_idle ≤ end_of_numbers) × (s.counts.max_lifetime + outcome.by_life ≤ end_of_numbers)
-  reaped_few s {js} {ks} {now} {mid} {outcome} h later ended few =
-      let all : outcome.closed ≤ s.records.conns = ended_few s h later ended in
-      let idle : outcome.by_idle ≤ outcome.closed = omega (arith, ended.by_idle, ended.closed) in
-      let life : outcome.by_life ≤ outcome.closed = omega (arith, ended.by_life, ended.closed) in
-      (omega (arith, ended_shown s h), omega (arith, (shown_fits s h).closed_few))
+  reaped_few s {js} {ks} {now} {mid} {outcome} h later ended few = grind (arith, nat_tests, ended_few s h later ended, ended_shown s h, shown_fits s h)

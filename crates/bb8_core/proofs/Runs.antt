@@ -1,5 +1,5 @@
 -- Runs: what a state says of its ledger's numbers, an event that does not fit, and lists of events.
-use Rattle.bb8_core.proofs.Words.{◌≡◌, ℕ, zero, suc, true, false, List, [], ◌∷◌, ◌++◌, take, length, Option, Some, None, IsSome, IfSome, IfNone, refl, sym, ap, ◌∙◌, subst, get, Key, Event, Act, Try, Unfit, Ledger, Later, gets_stand, is_trying, fits, Allowed, IsLegal, StateView, Represents, IsRecordIn, IsNoRecordIn, IsGetIn, IsNoGetIn, act_of, answer_of, IsRun, AfterEach, RecordsView, GetsView, AccessCount}
+use Rattle.bb8_core.proofs.Words.{◌≡◌, ℕ, zero, suc, true, false, List, [], ◌∷◌, ◌++◌, take, length, Option, Some, None, IsSome, IfSome, IfNone, refl, sym, ap, ◌∙◌, subst, get, Key, Event, Act, Try, Unfit, Ledger, Later, gets_stand, is_trying, fits, Allowed, IsLegal, StateView, Represents, IsRecordIn, IsNoRecordIn, IsGetIn, IsNoGetIn, act_of, answer_of, IsRun, AfterEach, RecordsView, GetsView, AccessCount, arith, nat_tests}
 use Rattle.bb8_tables.specs.declared.keys.GetKey.{GetKey}
 use Rattle.bb8_core.specs.declared.replay.events.Answer.{Answer as ReplayAnswer}
 use Rattle.bb8_core.specs.StateView.{IsAsBefore, IsFitting, HasLedger, Steps, ReportsFitting}
@@ -10,16 +10,13 @@ module _ {C : Type 0} where
   -- ---- what a look-up says of the ledger
 
   pub found : (s t : StateView C) (n : ℕ) (o : Option Key) → s ≡ t → IfSome o (λ k. (k.number ≡ n) × IsSome (get s.records.places n)) → IfSome o (λ k. (k.number ≡ n) × IsRecordIn t n)
-  found s t n None is h = tt
-  found s t n (Some k) is h = (h.0, λ l legal means. subst IsSome (sym (shown_record l s (as_shown l (sym is) means) n)) h.1)
+  found s t n o is h = grind (arith, nat_tests, shown_record, as_shown)
 
   pub absent : (s t : StateView C) (n : ℕ) (o : Option Key) → s ≡ t → IfNone o (get s.records.places n ≡ None) → IfNone o (IsNoRecordIn t n)
-  absent s t n None is h = λ l legal means. shown_record l s (as_shown l (sym is) means) n ∙ h
-  absent s t n (Some k) is h = tt
+  absent s t n o is h = grind (arith, nat_tests, shown_record, as_shown)
 
   pub get_found : (s t : StateView C) (n : ℕ) (o : Option GetKey) → s ≡ t → IfSome o (λ g. (g.number ≡ n) × IsSome (get s.gets.places n)) → IfSome o (λ g. (g.number ≡ n) × IsGetIn t n)
-  get_found s t n None is h = tt
-  get_found s t n (Some g) is h = (h.0, λ l legal means. subst IsSome (sym (shown_get l s (as_shown l (sym is) means) n)) h.1)
+  get_found s t n o is h = grind (arith, nat_tests, shown_get, as_shown)
 
   pub get_absent : (s t : StateView C) (n : ℕ) (o : Option GetKey) → s ≡ t → IfNone o (get s.gets.places n ≡ None) → IfNone o (IsNoGetIn t n)
   get_absent s t n None is h = λ l legal means. shown_get l s (as_shown l (sym is) means) n ∙ h

@@ -1,5 +1,6 @@
 -- What each change of the gets does to what is shown of them.
-use Rattle.bb8_core.proofs.Words.{◌≡◌, ℕ, suc, ◌+◌, ◌≤◌, max, Bool, true, false, eqb, ◌&&◌, List, [], ◌∷◌, ◌++◌, Option, Some, None, IfSome, is_some, option_and_then, option_map, slice_get, refl, sym, ap, ◌∙◌, arith, length-append, insert, Getting, GetPlace, Active, Numbered, update, in_order, standing_at, standings, after_end, gets_stand, is_unnotified, is_notified, get_with_place, get_in_wait, unnotified_at, alive_of, new_get, with_notice, get_at_place, at_wait, GetsView, no_gets, shown_gets, change, Before, and_right, same_gets}
+use Rattle.std.proofs.lemmas.Bool.Decides.{nat_tests}
+use Rattle.bb8_core.proofs.Words.{◌≡◌, ℕ, suc, ◌+◌, ◌≤◌, max, Bool, true, false, eqb, ◌&&◌, List, [], ◌∷◌, ◌++◌, Option, Some, None, IfSome, is_some, option_map, slice_get, refl, sym, ap, ◌∙◌, arith, length-append, insert, Getting, GetPlace, Active, Numbered, update, in_order, standing_at, standings, after_end, gets_stand, is_unnotified, is_notified, get_with_place, get_in_wait, unnotified_at, alive_of, new_get, with_notice, get_at_place, at_wait, GetsView, no_gets, shown_gets, change, Before, and_right, same_gets}
 use Rattle.bb8_types.specs.declared.standing.GetPlace.TheVariants.{Waiting}
 use Rattle.bb8_tables.specs.Machine as machine
 use Rattle.bb8_types.proofs.Numbered as numbered
@@ -70,8 +71,7 @@ module _ (first p top : ℕ) (gs : List (Numbered Getting)) where
       (omega arith)
     where
       still_alive : (o : Option Getting) → is_some (option_map (get_with_place place) o) ≡ is_some o
-      still_alive None = refl
-      still_alive (Some x) = refl
+      still_alive o = grind (arith, nat_tests)
 
   -- a get in no queue begins to wait
   pub shown-waits : (now k : ℕ) (s : Getting) → Before unnotified_at p gs → alive_of gs ≤ top → standing_at first gs k ≡ Some s
@@ -122,11 +122,7 @@ noticed_later first p top gs n named = ap (λ (m : ℕ). shown_gets first p (max
 -- the first in line waits and was not notified
 pub first_waits : (first p : ℕ) (gs : List (Numbered Getting)) (k : ℕ) → slice_get (in_order unnotified_at first gs p) 0 ≡ Some k
     → (s : Getting) × (standing_at first gs k ≡ Some s) × (is_unnotified s.place ≡ true)
-first_waits first p gs k e =
-    let m = numbered.in_order_member unnotified_at gs first p 0 k e in
-    let g : Numbered Getting = m.0 in
-    let stands = getting_is is_unnotified g.standing (and_right (gets_stand is_unnotified g.standing) _ m.4).0 in
-    (stands.0, ap (λ (o : Option (Numbered Getting)). option_and_then (λ (x : Numbered Getting). x.standing) o) m.1 ∙ stands.1, stands.2)
+first_waits first p gs k e = grind (arith, nat_tests, numbered.in_order_member unnotified_at gs first p 0 k e, getting_is is_unnotified, and_right)
 
 -- who was notified is in line no more
 pub notified_out : (p : GetPlace) → is_notified p ≡ true → is_unnotified p ≡ false

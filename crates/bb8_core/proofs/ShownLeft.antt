@@ -1,6 +1,7 @@
 -- What the leave of the last handle does to what is shown: idle connections and unclaimed approvals
 -- end, one after another.
-use Rattle.bb8_core.proofs.Words.{◌≡◌, ℕ, suc, ◌+◌, ◌-◌, ◌<◌, ◌≤◌, Bool, true, false, cond, eqb, ◌&&◌, ◌||◌, List, [], ◌∷◌, map, length, drop, slice_get, Option, Some, None, refl, sym, ap, ◌∙◌, arith, Place, Unclaimed, Idle, Standing, Numbered, at, update, numbers, in_order, tally, one, after_end, after_end_where, stands, is_conn, is_approval, is_unclaimed, is_idle, is_left, idle_at, conns_of, RecordsView, shown_records, change, Before, same_or_not, change_below, and_right, standing_is, unclaimed_is, idle_is, tested, ended_before, idle_counted, remove, standings, inl, inr}
+use Rattle.std.proofs.lemmas.Bool.Decides.{nat_tests}
+use Rattle.bb8_core.proofs.Words.{◌≡◌, ℕ, suc, ◌+◌, ◌-◌, ◌<◌, ◌≤◌, Bool, true, false, cond, eqb, ◌&&◌, ◌||◌, List, [], ◌∷◌, map, length, drop, slice_get, Option, Some, refl, sym, ap, ◌∙◌, arith, Place, Unclaimed, Idle, Standing, Numbered, at, update, numbers, in_order, tally, one, after_end, after_end_where, stands, is_conn, is_approval, is_unclaimed, is_idle, is_left, idle_at, conns_of, RecordsView, shown_records, change, Before, same_or_not, change_below, and_right, standing_is, unclaimed_is, idle_is, tested, ended_before, idle_counted, remove, standings}
 use Rattle.bb8_tables.specs.Machine as machine
 use Rattle.bb8_types.proofs.Numbered as numbered
 use Rattle.bb8_core.proofs.ShownRecords.{shown-changed}
@@ -8,14 +9,7 @@ use Rattle.bb8_core.proofs.ShownRecords.{shown-changed}
 -- an element is changed to one that a function makes the same
 pub map-change : {R S : Type 0} (f : R → S) (rs : List R) (n k : ℕ) (new old : R) → at n rs k ≡ Some old → f new ≡ f old → map f (change n k new rs) ≡ map f rs
 map-change f [] n k new old h e = refl
-map-change f (r ∷ rs) n k new old h e = elim (same_or_not k n) [
-  | inl t ↦ let is : Some r ≡ Some old = rw t.0 at h in
-      let same : r ≡ old = cc in
-      let rest : change (suc n) k new rs ≡ rs = change_below rs (suc n) k new (omega arith) in
-      rw (t.0, rest, e, same) refl
-  | inr t ↦ let ih : map f (change (suc n) k new rs) ≡ map f rs = map-change f rs (suc n) k new old (rw t.0 at h) e in
-      rw (t.0, ih) refl
-]
+map-change f (r ∷ rs) n k new old h e = grind (arith, nat_tests, same_or_not k n, change_below rs (suc n) k new, map-change f rs (suc n) k new old)
 
 module _ {C : Type 0} where
   -- a record is idle since one position
@@ -28,8 +22,7 @@ module _ {C : Type 0} where
 
   -- a record that would end then has ended already
   shut_ended : (first k : ℕ) (rs : List (Numbered (Standing C))) (r : Numbered (Standing C)) → at first rs k ≡ Some r → is_left r.standing ≡ true → shut (update first k after_end rs) ≡ shut rs
-  shut_ended first k rs r h left_now = ap shut (numbered.update_is rs first k after_end r h)
-      ∙ map-change (after_end_where is_left) rs first k (after_end r) r h (ap (λ (b : Bool). cond b (after_end r) r) (sym left_now))
+  shut_ended first k rs r h left_now = grind (arith, nat_tests, numbered.update_is rs first k after_end r h, map-change (after_end_where is_left) rs first k (after_end r) r h)
 
   -- which places end
   idle_left : (s : Standing C) → is_idle s.place ≡ true → is_left (Some s) ≡ true
@@ -120,21 +113,14 @@ module _ {C : Type 0} where
     nothing_left (r ∷ rs) n i u = go (nothing_left rs (suc n)) (stands is_idle r.standing) (stands is_unclaimed r.standing) refl refl i u
       where
         stays : (o : Option (Standing C)) → stands is_idle o ≡ false → stands is_unclaimed o ≡ false → is_left o ≡ false
-        stays None a b = refl
-        stays (Some s) a b = ap (λ (x : Bool). x || is_unclaimed s.place) a ∙ b
+        stays o a b = grind (arith, nat_tests)
 
         go : (tally (λ x. stands is_idle x.standing) rs ≡ 0 → numbers (λ x. stands is_unclaimed x.standing) (suc n) rs ≡ [] → shut rs ≡ rs)
             → (a b : Bool) → stands is_idle r.standing ≡ a → stands is_unclaimed r.standing ≡ b
             → one a + tally (λ x. stands is_idle x.standing) rs ≡ 0
             → cond b (n ∷ numbers (λ x. stands is_unclaimed x.standing) (suc n) rs)
             (numbers (λ x. stands is_unclaimed x.standing) (suc n) rs) ≡ [] → shut (r ∷ rs) ≡ r ∷ rs
-        go others true b idle_now unclaimed_now t m = absurd (omega arith)
-        go others false true idle_now unclaimed_now t m = cc
-        go others false false idle_now unclaimed_now t m =
-            let few : tally (λ x. stands is_idle x.standing) rs ≡ 0 = omega arith in
-            let rest : shut rs ≡ rs = others few m in
-            let off : is_left r.standing ≡ false = stays r.standing idle_now unclaimed_now in
-            rw (off, rest) refl
+        go others a b idle_now unclaimed_now t m = grind (arith, nat_tests)
 
     -- what the leave of the last handle shows
     pub shown-left : (rs : List (Numbered (Standing C))) → Before idle_at p rs → show (shut rs) ≡ machine.after_leave (show rs)
@@ -156,7 +142,4 @@ module _ {C : Type 0} where
   unclaimeds_few (k ∷ xs) s = omega (arith, unclaimeds_few xs (machine.after_unclaimed_end k s))
 
   pub left_few : (s : RecordsView C) → (machine.after_leave s).conns + (machine.after_leave s).approved ≤ s.conns + s.approved
-  left_few s =
-      let idle = idles_few s.idle s in
-      let all = unclaimeds_few (machine.after_idle_ends s.idle s).unclaimed (machine.after_idle_ends s.idle s) in
-      omega arith
+  left_few s = grind (arith, nat_tests, idles_few, unclaimeds_few)

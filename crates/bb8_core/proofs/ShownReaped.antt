@@ -1,6 +1,7 @@
 -- What a reap does to the view: those that live too long end, wherever they are in the queue, and
 -- then some from the front of the line.
-use Rattle.bb8_core.proofs.Words.{◌≡◌, ◌≢◌, ℕ, zero, suc, ◌+◌, ◌-◌, ◌≤◌, Bool, true, false, cond, eqb, ◌&&◌, List, [], ◌∷◌, ◌++◌, map, filter, take, length, slice_get, Option, Some, None, option_and_then, ◌⊎◌, inl, inr, refl, sym, ap, ◌∙◌, arith, subst, eq-eqb, ne_eqb, unwrap_or, get, Standing, Settings, Numbered, at, update, numbers, in_order, tally, one, standing_at, after_end, after_end_where, stands, is_idle, idles_out, lives_out, Start, idle_at, idle_of, with_ended, outlived, idled, over_idle_at, RecordsView, after_reaped, after_reap, AreReaped, AreFirst, beyond, shown_records, change, same_or_not, at-below, Before, and_right, idle_counted, ended_all_before, ended_swept, over_idle, over_idle_line, lives_idle, idles_idle}
+use Rattle.std.proofs.lemmas.Bool.Decides.{nat_tests}
+use Rattle.bb8_core.proofs.Words.{◌≡◌, ℕ, zero, suc, ◌+◌, ◌-◌, ◌≤◌, Bool, true, false, cond, List, [], ◌∷◌, map, filter, take, length, slice_get, Option, Some, None, option_and_then, ◌⊎◌, inl, inr, refl, sym, ap, ◌∙◌, arith, subst, eq-eqb, ne_eqb, unwrap_or, get, Standing, Settings, Numbered, at, update, numbers, in_order, tally, one, standing_at, after_end, after_end_where, stands, is_idle, idles_out, lives_out, Start, idle_at, idle_of, with_ended, outlived, idled, over_idle_at, RecordsView, after_reaped, after_reap, AreReaped, AreFirst, beyond, shown_records, change, same_or_not, at-below, Before, and_right, idle_counted, ended_all_before, ended_swept, over_idle, over_idle_line, lives_idle, idles_idle}
 use Rattle.std.proofs.lemmas.List.Elements.{filter-append}
 use Rattle.bb8_types.proofs.Numbered as numbered
 use Rattle.bb8_core.proofs.ShownLeft.{map-change, idle-ended}
@@ -14,16 +15,7 @@ module _ {C : Type 0} where
   nothing_due : (test : Option (Standing C) → Bool) → test None ≡ false → (rs : List (Numbered (Standing C))) (n : ℕ)
       → ((k : ℕ) → test (standing_at n rs k) ≡ false) → (map (after_end_where test) rs ≡ rs) × (tally (λ r. test r.standing) rs ≡ 0)
   nothing_due test off [] n none = (refl, refl)
-  nothing_due test off (r ∷ rs) n none =
-      let here : test r.standing ≡ false = ap (λ (b : Bool). test (standing_in (cond b (Some r) (at (suc n) rs n)))) (sym (eq-eqb n n refl)) ∙ none n in
-      let rest = nothing_due test off rs (suc n) (λ k. later k (same_or_not k n)) in
-      let tail : tally (λ x. test x.standing) rs ≡ 0 = rest.1 in
-      let first : one (test r.standing) ≡ 0 = ap one here in
-      (rw (here, rest.0) refl, omega arith)
-    where
-      later : (k : ℕ) → ((eqb k n ≡ true) × (k ≡ n)) ⊎ ((eqb k n ≡ false) × (k ≢ n)) → test (standing_at (suc n) rs k) ≡ false
-      later k (inl t) = ap (λ (o : Option (Numbered (Standing C))). test (standing_in o)) (at-below rs (suc n) k (omega arith)) ∙ off
-      later k (inr t) = ap (λ (b : Bool). test (standing_in (cond b (Some r) (at (suc n) rs k)))) (sym t.0) ∙ none k
+  nothing_due test off (r ∷ rs) n none = grind (arith, nat_tests, eq-eqb n n, nothing_due test off rs (suc n), same_or_not, at-below rs (suc n))
 
   -- no more is left than there was
   pub reap_few : (ks : List ℕ) (s : RecordsView C) → (after_reap ks s).conns + (after_reap ks s).approved ≤ s.conns + s.approved
@@ -35,35 +27,13 @@ module _ {C : Type 0} where
       → ((k : ℕ) → n ≤ k → f k ≡ idles_out config now (standing_at n rs k))
       → numbers (over_idle_at config now m) n rs ≡ filter f (numbers (idle_at m) n rs)
   numbers_among config now m [] n f is = refl
-  numbers_among config now m (r ∷ rs) n f is = go
-      (numbers_among config now m rs (suc n) f (λ k above. is k (omega arith)
-      ∙ ap (λ (b : Bool). idles_out config now (standing_in (cond b (Some r) (at (suc n) rs k)))) (ne_eqb k n (λ e. omega arith))))
-      (idles_out config now r.standing) refl (stands is_idle r.standing) refl (eqb r.position m)
-    where
-      here : f n ≡ idles_out config now r.standing
-      here = is n (omega arith) ∙ ap (λ (b : Bool). idles_out config now (standing_in (cond b (Some r) (at (suc n) rs n)))) (eq-eqb n n refl)
-
-      go : numbers (over_idle_at config now m) (suc n) rs ≡ filter f (numbers (idle_at m) (suc n) rs)
-          → (a : Bool) → idles_out config now r.standing ≡ a → (b : Bool) → stands is_idle r.standing ≡ b → (c : Bool)
-          → cond (a && c) (n ∷ numbers (over_idle_at config now m) (suc n) rs) (numbers (over_idle_at config now m) (suc n) rs)
-          ≡ filter f (cond (b && c) (n ∷ numbers (idle_at m) (suc n) rs) (numbers (idle_at m) (suc n) rs))
-      go rest true e true g true = let on : f n ≡ true = here ∙ e in rw on (ap (λ (ks : List ℕ). n ∷ ks) rest)
-      go rest true e true g false = rest
-      go rest true e false g c = absurd (let clash : false ≡ true = sym g ∙ idles_idle config now r.standing e in cc)
-      go rest false e true g true = let off : f n ≡ false = here ∙ e in rw off rest
-      go rest false e true g false = rest
-      go rest false e false g c = rest
+  numbers_among config now m (r ∷ rs) n f is = grind (arith, nat_tests, numbers_among config now m rs (suc n) f, ne_eqb, eq-eqb n n, idles_idle config now r.standing)
 
   -- so the line of those that are idle too long is the line of the idle ones without the others
   line_among : (s : Start) (now : ℕ) (rs : List (Numbered (Standing C))) (m : ℕ)
       → over_idle s m now rs ≡ filter (λ k. idles_out s.config now (standing_at s.first rs k)) (in_order idle_at s.first rs m)
   line_among s now rs zero = refl
-  line_among s now rs (suc m) =
-      let ih = line_among s now rs m in
-      let here = numbers_among s.config now m rs s.first (λ k. idles_out s.config now (standing_at s.first rs k)) (λ k above. refl) in
-      ap (λ (ks : List ℕ). ks ++ numbers (over_idle_at s.config now m) s.first rs) ih
-      ∙ ap (λ (ks : List ℕ). filter (λ k. idles_out s.config now (standing_at s.first rs k)) (in_order idle_at s.first rs m) ++ ks) here
-      ∙ sym (filter-append (λ k. idles_out s.config now (standing_at s.first rs k)) (in_order idle_at s.first rs m) (numbers (idle_at m) s.first rs))
+  line_among s now rs (suc m) = grind (arith, nat_tests, line_among s now rs m, numbers_among s.config now m rs s.first, filter-append)
 
   module _ (s : Start) (p top : ℕ) (now : ℕ) where
     abbrev show : List (Numbered (Standing C)) → RecordsView C
@@ -173,8 +143,7 @@ module _ {C : Type 0} where
     all_idled q [] rs first few (inr none) = record { shows = refl; are = sym (ap (take q) (nobody rs none) ∙ none_taken q) }
       where
         none_taken : (q : ℕ) → take {A = ℕ} q [] ≡ []
-        none_taken zero = refl
-        none_taken (suc q) = refl
+        none_taken q = grind (arith, nat_tests)
     all_idled zero (k ∷ ks) rs first few all = absurd (omega arith)
     all_idled (suc q) (k ∷ ks) rs first few all =
         let r = due_record (idles_out s.config now) refl rs k first.1 in
@@ -190,8 +159,7 @@ module _ {C : Type 0} where
         }
       where
         one_less : {P : Type 0} → (suc (length ks) ≡ suc q) ⊎ P → (length ks ≡ q) ⊎ P
-        one_less (inl e) = inl (omega arith)
-        one_less (inr e) = inr e
+        one_less v = grind (arith, nat_tests)
 
     -- ---- both
 

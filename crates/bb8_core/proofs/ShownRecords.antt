@@ -1,11 +1,11 @@
 -- What each change of the records does to what is shown of them.
-use Rattle.bb8_core.proofs.Words.{◌≡◌, ℕ, zero, suc, ◌+◌, ◌-◌, ◌<◌, ◌≤◌, Bool, true, false, eqb, ◌&&◌, List, [], ◌∷◌, ◌++◌, Option, Some, slice_get, drop, option_and_then, option_map, refl, sym, ap, ◌∙◌, arith, length, length-append, append-nil, cond, not, insert, get, Place, Unclaimed, Claimed, Idle, Guarded, Standing, Numbered, at, update, numbers, one, standings, standing_at, after_end, stands, is_conn, is_approval, is_unclaimed, is_idle, is_out, with_place, comes_from, idle_at, conns_of, approved_of, at_place, approval, with_approvals, entry, RecordsView, no_records, shown_records, change, Before, and_right, idle_from, unclaimed_from, conn_from, approval_from, standing_is, unclaimed_is, idle_is, tested, conns-change, approved-change, same_records, in_order}
+use Rattle.std.proofs.lemmas.Bool.Decides.{nat_tests}
+use Rattle.bb8_core.proofs.Words.{◌≡◌, ℕ, zero, suc, ◌+◌, ◌-◌, ◌<◌, ◌≤◌, Bool, true, false, eqb, ◌&&◌, List, [], ◌∷◌, ◌++◌, Some, slice_get, drop, option_map, refl, sym, ap, ◌∙◌, arith, length, length-append, append-nil, not, insert, get, Place, Unclaimed, Claimed, Idle, Guarded, Standing, Numbered, at, update, numbers, one, standings, standing_at, after_end, stands, is_conn, is_approval, is_unclaimed, is_idle, is_out, with_place, comes_from, idle_at, conns_of, approved_of, at_place, approval, with_approvals, entry, RecordsView, no_records, shown_records, change, Before, and_right, idle_from, unclaimed_from, conn_from, approval_from, standing_is, unclaimed_is, idle_is, tested, conns-change, approved-change, same_records, in_order}
 use Rattle.bb8_tables.specs.Machine as machine
 use Rattle.bb8_types.proofs.Numbered as numbered
 
 head_gone : (k : ℕ) (xs ys : List ℕ) → slice_get xs 0 ≡ Some k → ((rest : List ℕ) → xs ≡ k ∷ rest → ys ≡ rest) → ys ≡ drop 1 xs
-head_gone k [] ys e f = cc
-head_gone k (x ∷ xs) ys e f = f xs (let is : Some x ≡ Some k = e in let same : x ≡ k = cc in ap (λ (y : ℕ). y ∷ xs) same)
+head_gone k xs ys e f = grind (arith, nat_tests)
 
 module _ {C : Type 0} where
   not_idle : (r : Numbered (Standing C)) → stands is_idle r.standing ≡ false → (q : ℕ) → idle_at q r ≡ false
@@ -18,11 +18,7 @@ module _ {C : Type 0} where
       → at first rs k ≡ Some r → r.standing ≡ Some s
       → standings first (change first k (at_place p r) rs) ≡ insert (standings first rs) k
       (machine.standing_at p (get (standings first rs) k))
-  places-put first rs k p r s h e =
-      numbered.numbered-change_some (λ (x : Numbered (Standing C)). x.standing) rs first k (at_place p r) r (with_place p s) h (ap (option_map (with_place p)) e)
-      ∙ ap (λ (o : Option (Standing C)). insert (standings first rs) k (machine.standing_at p o))
-      (sym (numbered.get-numbered (λ (x : Numbered (Standing C)). x.standing) rs first k
-      ∙ ap (option_and_then (λ (x : Numbered (Standing C)). x.standing)) h ∙ e))
+  places-put first rs k p r s h e = grind (arith, nat_tests, numbered.numbered-change_some, numbered.get-numbered)
 
   -- One record changes: the sizes follow from what it was and what it is, and the rest is given.
   pub shown-changed : {t : RecordsView C} (first p top k : ℕ) (rs : List (Numbered (Standing C))) (new r : Numbered (Standing C)) (a b c d : Bool)
@@ -134,12 +130,10 @@ module _ {C : Type 0} where
         (λ n e. conns_are opening n (conns_of rs) e) (λ n e. approved_are opening n (approved_of rs) e) refl
       where
         conns_are : (o : Bool) (n m : ℕ) → n + one (not o) ≡ m + 1 → n ≡ m + one o
-        conns_are true n m e = omega arith
-        conns_are false n m e = omega arith
+        conns_are o n m e = grind (arith, nat_tests)
 
         approved_are : (o : Bool) (n m : ℕ) → n + one o ≡ m + 0 → n ≡ m - one o
-        approved_are true n m e = omega arith
-        approved_are false n m e = omega arith
+        approved_are o n m e = grind (arith, nat_tests)
 
     -- a connection is added at this position
     pub shown-born : (c : C) (now : ℕ) → Before idle_at p rs → shown_records first (suc p) top (rs ++ entry c now now p ∷ []) ≡ machine.after_birth c now before
@@ -153,31 +147,7 @@ module _ {C : Type 0} where
         refl
 
     shown-approve_one : (claimed : Bool) → shown_records first p top (rs ++ approval claimed ∷ []) ≡ machine.after_approval claimed before
-    shown-approve_one claimed = same_records _ _
-        (omega (arith, length-append rs (approval claimed ∷ [])))
-        (numbered.numbered-append_some (λ (x : Numbered (Standing C)). x.standing) rs first (approval claimed) (record { place = cond claimed Claimed Unclaimed; birth = 0; entered = 0 }) refl)
-        (numbered.in_order-append idle_at rs first (approval claimed) (λ q. never_idle claimed q) p)
-        (numbered.numbers-append (λ x. stands is_unclaimed x.standing) rs (approval claimed) first
-        ∙ ap (λ (xs : List ℕ). numbers (λ x. stands is_unclaimed x.standing) first rs ++ xs) (unclaimed_where claimed))
-        (omega (arith, numbered.tally-append (λ x. stands is_conn x.standing) rs (approval claimed), no_conn claimed))
-        (omega (arith, numbered.tally-append (λ x. stands is_approval x.standing) rs (approval claimed), an_approval claimed))
-        refl
-      where
-        never_idle : (b : Bool) (q : ℕ) → idle_at {C = C} q (approval b) ≡ false
-        never_idle true q = refl
-        never_idle false q = refl
-
-        unclaimed_where : (b : Bool) → cond (is_unclaimed {C = C} (cond b Claimed Unclaimed)) ((first + length rs) ∷ []) [] ≡ cond b [] ((first + length rs) ∷ [])
-        unclaimed_where true = refl
-        unclaimed_where false = refl
-
-        no_conn : (b : Bool) → one (is_conn {C = C} (cond b Claimed Unclaimed)) ≡ 0
-        no_conn true = refl
-        no_conn false = refl
-
-        an_approval : (b : Bool) → one (is_approval {C = C} (cond b Claimed Unclaimed)) ≡ 1
-        an_approval true = refl
-        an_approval false = refl
+    shown-approve_one claimed = grind (arith, nat_tests, same_records, length-append, numbered.numbered-append_some, numbered.in_order-append, numbered.numbers-append, numbered.tally-append)
 
   pub shown-approve : (claimed : Bool) (n first p top : ℕ) (rs : List (Numbered (Standing C)))
       → shown_records first p top (with_approvals claimed n rs) ≡ machine.after_approvals claimed n (shown_records first p top rs)

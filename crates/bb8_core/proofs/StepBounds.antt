@@ -1,19 +1,12 @@
 -- The bounds of each step: how many connections are out of the pool, and what it reads.
-use Rattle.bb8_core.proofs.Words.{◌≡◌, ℕ, ◌+◌, ◌-◌, ◌≤◌, length, Bool, one, true, false, Some, refl, sym, ap, ◌∙◌, subst, arith, Act, Begin, Try, CheckedErr, GiveUp, PutBack, Detach, Answer, Begun, Served, Taken, Kept, Closed, Unfit, Guarded, Held, Ledger, Later, records, conns, idle, idle_count, out, Row, waits_on, serves, takes_out, waits, checks, check_fails, gives_up_kept, gives_up_closed, keeps, returns_closed, detaches, evicts, fills, asks_for, claims, opens, opens_late, fails, adds, reaps, retires, leaves, shuts, fits, Allowed, IsLegal, AccessCount, StateView, shown_beside, Steps, HasLedger, idle_tally, conns_split, each_allowed, returns_turn, closes_turn, evicts_turn, opens_turn, ends_turn, idle_turns, unclaimed_turns, stays_sized, turned_sized, adds_sized, granted_sized, reaped_sized, retired_sized, granted_reaped, left_sized, shut_sized, checks_turn, drops_turn, hands_in_turn}
+use Rattle.std.proofs.lemmas.Bool.Decides.{nat_tests}
+use Rattle.bb8_core.proofs.Words.{◌≡◌, ℕ, ◌+◌, ◌≤◌, length, Bool, one, true, false, Some, refl, ap, ◌∙◌, subst, arith, Act, Begin, Try, CheckedErr, GiveUp, PutBack, Detach, Answer, Begun, Served, Taken, Kept, Closed, Unfit, Guarded, Held, Ledger, Later, records, out, Row, waits_on, serves, takes_out, waits, checks, check_fails, gives_up_kept, gives_up_closed, keeps, returns_closed, detaches, evicts, fills, asks_for, claims, opens, opens_late, fails, adds, reaps, retires, leaves, shuts, fits, Allowed, IsLegal, AccessCount, StateView, shown_beside, Steps, HasLedger, idle_tally, conns_split, each_allowed, returns_turn, closes_turn, evicts_turn, opens_turn, ends_turn, idle_turns, unclaimed_turns, stays_sized, turned_sized, adds_sized, granted_sized, reaped_sized, retired_sized, granted_reaped, left_sized, shut_sized, checks_turn, drops_turn, hands_in_turn}
 use Rattle.bb8_core.specs.StepBounds.{out_of, IsBounded}
 use Rattle.bb8_core.proofs.Fitting.{shown}
-use Rattle.bb8_tables.specs.AccessCount.{one_more, no_accesses}
-
--- a counter begins at zero
-pub reads_none : {a : AccessCount} → a ≡ no_accesses → a.reads ≡ 0
-reads_none is = ap (λ (l : AccessCount). l.reads) is
-
-pub searched_none : {a : AccessCount} → a ≡ no_accesses → a.searched ≡ 0
-searched_none is = ap (λ (l : AccessCount). l.searched) is
+use Rattle.bb8_tables.specs.AccessCount.{one_more}
 
 pub one_few : (b : Bool) → one b ≤ 1
-one_few true = omega arith
-one_few false = omega arith
+one_few b = grind (arith, nat_tests)
 
 at_most : {i n k : ℕ} → i ≡ n → n ≤ k → i ≤ k
 at_most is few = omega (arith, is, few)
@@ -21,10 +14,7 @@ at_most is few = omega (arith, is, few)
 module _ {C : Type 0} where
   -- what is out in a ledger, by what it shows
   out_shown : (l : Ledger C) → out_of (shown l) ≡ out l
-  out_shown l =
-      let split : conns l ≡ idle_count l + out l = conns_split (records l) in
-      let tally = idle_tally l in
-      ap (λ n. conns l - n) tally ∙ (omega arith)
+  out_shown l = grind (arith, nat_tests, conns_split (records l), idle_tally l)
 
   -- how many go out with an answer: where a try is served or takes a connection to check
   abbrev pub going : Act C → Answer → ℕ
@@ -85,10 +75,7 @@ module _ {C : Type 0} where
 
   pub counted_at : (l : Ledger C) (at : ℕ) (e : Act C) (a : Answer) (reads reads_now : AccessCount) → IsLegal l → Allowed l at e a
       → IsCounted (shown_beside reads l) (going e a) (coming e a) (shown_beside reads_now (Later l at e a))
-  counted_at l at e a reads reads_now legal allowed = record {
-    config = refl;
-    moves = ap (λ (n : ℕ). n + coming e a) (out_shown (Later l at e a)) ∙ moved_out l at e a legal allowed ∙ ap (λ (n : ℕ). n + going e a) (sym (out_shown l));
-  }
+  counted_at l at e a reads reads_now legal allowed = grind (arith, nat_tests, out_shown (Later l at e a), moved_out l, out_shown l)
 
   counted : {old : StateView C} (new : StateView C) (at : ℕ) (e : Act C) (a : Answer) → Steps old at e a new → IsCounted old (going e a) (coming e a) new
   counted {old} new at e a ((h, limits), meets) =
@@ -120,7 +107,4 @@ module _ {C : Type 0} where
 
   -- the idle connections are among the connections
   pub idle_few : (s : StateView C) → HasLedger s → length s.records.idle ≤ s.records.conns
-  idle_few s h =
-      let split : conns h.0 ≡ idle_count h.0 + out h.0 = conns_split (records h.0) in
-      let few : length (idle h.0) ≤ conns h.0 = omega (arith, idle_tally h.0) in
-      subst (λ (t : StateView C). length t.records.idle ≤ t.records.conns) h.2 few
+  idle_few s h = grind (arith, nat_tests, conns_split (records h.0), idle_tally h.0)

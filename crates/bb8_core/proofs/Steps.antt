@@ -1,5 +1,5 @@
 -- Each step, from what it does to what is shown to what it does on every legal ledger.
-use Rattle.bb8_core.proofs.Words.{◌≡◌, ℕ, suc, ◌+◌, ◌-◌, ◌*◌, ◌<◌, ◌≤◌, max, min, Bool, true, false, not, eqb, ◌&&◌, ◌||◌, List, length, Option, Some, None, slice_get, refl, sym, ap, ◌∙◌, arith, subst, is_some, MatchBool, ◌≢◌, IfSome, cond, ltb, get, nat_tests, Grant, Place, Claimed, Idle, Held, Guarded, Standing, Holding, Getting, Counters, counts_held, Counts, Figures, Act, Begin, Try, PutBack, Detach, Evict, Fill, Ask, Claim, Opened, Failed, Add, Join, Leave, Close, Look, Answer, Begun, Memory, Exhausted, Served, Taken, Kept, Closed, Granted, Ended, Entered, Late, GivenBack, Broken, NoCapacity, Withheld, Added, Joined, Left, Looked, Numbered, update, one, after_end, at_entry, Ledger, Later, start, position, latest, handles, records, gets, peak, get_peak, alive, idle, record_of, get_of, idle_at, at_place, entry, with_approvals, idle_count, conns, approved, conns_of, approved_of, alive_of, counts, figures, wait_micros, next, with_notice, oldest_waiter, waiting, stands, first_of, first_place, first_wait_of, is_claimed, is_guarded, is_idle, is_out, is_unnotified, is_trying, gets_stand, birth_in, entered_in, is_checked, asks_check, is_expired, retired, expires, micros_since, Allowed, IsLegal, Row, begins, begin_refused, begin_exhausted, serves, keeps, returns_closed, detaches, evicts, takes_out, fills, asks_for, claims, claim_ended, opens, opens_late, fails, fits, closes, IsWant, with_record, adds, add_broken, add_full, add_exhausted, add_refused, waits_on, waits, joins, join_exhausted, leaves, shuts, looks, due, lacking, IsGranted, IsNoGrant, StateView, shown_records, shown_gets, Represents, IsWithinLimits, Steps, keeps_limits, keeps_laws, keeps_promises, HasLedger, IsFitting, RecordsView, GetsView, after_reaped, Before, before_later, ne_test, standing_is, claimed_is, guarded_out, idle_from, unclaimed_from, conn_from, entered_before, waited_before, put_before, ended_before, peak_holds, get_peak_holds, idle_counted, idle_tally, waiting_counted, trying_is, claimed_counted, waits_on_gets, end_of_numbers, most_handles, most_micros, State, ShownFigures, shows, detached}
+use Rattle.bb8_core.proofs.Words.{◌≡◌, ℕ, suc, ◌+◌, ◌-◌, ◌<◌, ◌≤◌, max, min, Bool, true, false, not, eqb, ◌&&◌, ◌||◌, List, length, Option, Some, None, slice_get, refl, sym, ap, ◌∙◌, arith, subst, is_some, MatchBool, ◌≢◌, IfSome, cond, ltb, get, nat_tests, Grant, Place, Claimed, Idle, Held, Guarded, Standing, Holding, Getting, Counters, counts_held, Counts, Figures, Act, Begin, Try, PutBack, Detach, Evict, Fill, Ask, Claim, Opened, Failed, Add, Join, Leave, Close, Look, Answer, Begun, Memory, Exhausted, Served, Taken, Kept, Closed, Granted, Ended, Entered, Late, GivenBack, Broken, NoCapacity, Withheld, Added, Joined, Left, Looked, Numbered, update, one, after_end, at_entry, Ledger, Later, start, position, latest, handles, records, gets, peak, get_peak, alive, idle, record_of, get_of, idle_at, at_place, entry, with_approvals, idle_count, conns, approved, conns_of, approved_of, alive_of, counts, figures, wait_micros, next, with_notice, oldest_waiter, waiting, stands, first_of, first_place, first_wait_of, is_claimed, is_guarded, is_idle, is_out, is_unnotified, is_trying, gets_stand, birth_in, entered_in, is_checked, asks_check, is_expired, retired, expires, micros_since, Allowed, IsLegal, Row, begins, begin_refused, begin_exhausted, serves, keeps, returns_closed, detaches, evicts, takes_out, fills, asks_for, claims, claim_ended, opens, opens_late, fails, fits, closes, IsWant, with_record, adds, add_broken, add_full, add_exhausted, add_refused, waits_on, waits, joins, join_exhausted, leaves, shuts, looks, due, IsGranted, IsNoGrant, StateView, shown_records, shown_gets, Represents, IsWithinLimits, Steps, keeps_limits, keeps_laws, keeps_promises, HasLedger, IsFitting, RecordsView, GetsView, after_reaped, Before, before_later, ne_test, standing_is, claimed_is, guarded_out, idle_from, unclaimed_from, conn_from, entered_before, waited_before, put_before, ended_before, peak_holds, get_peak_holds, idle_counted, idle_tally, waiting_counted, trying_is, claimed_counted, waits_on_gets, end_of_numbers, most_handles, most_micros, State, ShownFigures, shows, detached}
 use Rattle.std.proofs.lemmas.Bool.Decides.{leb_tells}
 use Rattle.bb8_ledger.specs.Answers as answers
 use Rattle.bb8_tables.specs.Machine as machine
@@ -12,8 +12,7 @@ use Rattle.bb8_core.proofs.ShownGets.{shown-kept, shown-begun, shown-ended, show
 use Rattle.bb8_core.proofs.Fitting.{shown, unexamined, bare, beside, as_shown, shown_record, shown_get}
 
 fitting : (b : Bool) (P Q : Type 0) → b ≡ true → P → MatchBool b P Q
-fitting true P Q e p = p
-fitting false P Q e p = cc
+fitting b P Q e p = grind (arith, nat_tests)
 
 pub unfitting : (b : Bool) (P Q : Type 0) → b ≡ false → Q → MatchBool b P Q
 unfitting true P Q e q = cc
@@ -33,12 +32,7 @@ open_now n h = omega arith
 -- a returned connection is closed as it is broken, or too old or retired, or the pool has
 -- ended: whichever is asked first
 regrouped : (b o e r : Bool) → (b || (o || (e || r))) ≡ (b || ((o || r) || e))
-regrouped true o e r = refl
-regrouped false true e r = refl
-regrouped false false true true = refl
-regrouped false false true false = refl
-regrouped false false false true = refl
-regrouped false false false false = refl
+regrouped b o e r = grind (arith, nat_tests)
 
 pub regroup : (b o e r : Bool) {ended aged x : Bool} → ended ≡ (e || r) → aged ≡ (o || r) → (b || (o || ended)) ≡ x → (b || (aged || e)) ≡ x
 regroup b o e r ended_is aged_is h = ap (λ (z : Bool). b || (z || e)) aged_is ∙ sym (regrouped b o e r) ∙ ap (λ (z : Bool). b || (o || z)) (sym ended_is) ∙ h
@@ -122,12 +116,7 @@ module _ {C : Type 0} where
   pub meets_by : (Known : StateView C → Type 0) (next : StateView C → StateView C) (s new : StateView C) (at : ℕ) (e : Act C) (a : Answer) → IsFitting s e
       → Known (unexamined s) → new ≡ next (unexamined s) → ((l : Ledger C) → IsLegal l → fits l e ≡ true → Known (shown l) → Row l at e a
       × (shown (Later l at e a) ≡ next (shown l))) → Step s at e a new
-  meets_by Known next s new at e a fit known is step = record {
-    leads = λ l legal means.
-        let taken : fits l e ≡ true = fit l legal means in
-        let done = step l legal taken (subst Known (sym (bare l means)) known) in
-        (fitting (fits l e) _ _ taken done.0, done.1 ∙ ap next (bare l means) ∙ sym is);
-  }
+  meets_by Known next s new at e a fit known is step = grind (arith, nat_tests, bare, fitting)
 
   -- the records of a ledger, shown one position later
   pub later_shown : (l : Ledger C) → shown_records (start l).first (suc (position l)) (peak l) (records l) ≡ (shown l).records
@@ -158,20 +147,13 @@ module _ {C : Type 0} where
   pub grants : {s : StateView C} {claimed : Bool} {taken was : RecordsView C} {wanted : ℕ} {grant : Grant} {rs : RecordsView C} → taken ≡ was
       → wanted ≡ decided.want s.config s.handles taken → machine.IsGrant taken wanted grant → rs ≡ machine.after_grant claimed grant taken
       → Grants s claimed was grant rs
-  grants {s} {claimed} {taken} {grant = grant} taken_is wanted_is granted rs_is = record {
-    granted = subst (λ (x : RecordsView C). machine.IsGrant x (decided.want s.config s.handles x) grant) taken_is (subst (λ (m : ℕ). machine.IsGrant taken m grant) wanted_is granted);
-    after = rs_is ∙ ap (machine.after_grant claimed grant) taken_is;
-  }
+  grants {s} {claimed} {taken} {grant = grant} taken_is wanted_is granted rs_is = grind (arith, nat_tests)
 
   -- what is granted of what is wanted, by tallies
   pub want_is : (l : Ledger C) (rs : List (Numbered (Standing C))) (g : Grant) (new : RecordsView C) → Before idle_at (position l) rs
       → shown_records (start l).first (position l) (peak l) rs ≡ new → machine.IsGrant new (decided.want (start l).config (handles l) new) g
       → IsWant l rs g
-  want_is l rs g new before is granted =
-      let wants : RecordsView C → ℕ → Type 0 = λ x n. IsGranted x.next (x.conns + x.approved) x.peak
-      (due (start l).config (handles l) (x.conns + x.approved) (lacking (start l).config (n + x.approved))) g in
-      subst (wants (shown_records (start l).first (position l) (peak l) rs)) (idle_counted (start l).first (position l) rs before)
-      (subst (λ (x : RecordsView C). wants x (length x.idle)) (sym is) granted)
+  want_is l rs g new before is granted = grind (arith, nat_tests, idle_counted)
 
   -- records that are no more than before keep the peak
   pub still_raised : (l : Ledger C) (rs : List (Numbered (Standing C))) (new : RecordsView C)
@@ -197,8 +179,7 @@ module _ {C : Type 0} where
 
   -- what is decided of a returned connection
   pub closes_is : (l : Ledger C) (at k : ℕ) (broken : Bool) → closes l at k broken ≡ decided.closes (shown l) at k broken
-  closes_is l at k broken = ap (λ (o : Option (Standing C)). broken
-      || ((is_expired (start l).config.max_lifetime (max (latest l) at) (birth_in o) || ltb k (retired l)) || eqb (handles l) 0)) (shown_record l (shown l) refl k)
+  closes_is l at k broken = grind (arith, nat_tests, shown_record l (shown l))
 
   -- what the code knows when a connection was returned
   pub record Returned (s : StateView C) (at k now birth : ℕ) (aged : Bool) : Type 0 where
@@ -207,8 +188,7 @@ module _ {C : Type 0} where
     pub aged_is : aged ≡ (is_expired s.config.max_lifetime now birth || ltb k s.retired)
 
   old_is : (s : StateView C) (at k now birth : ℕ) (aged : Bool) → Returned s at k now birth aged → decided.is_old s at k ≡ aged
-  old_is s at k now birth aged r = sym (r.aged_is ∙ ap (λ (n : ℕ). is_expired s.config.max_lifetime n birth || ltb k s.retired) r.now_is
-      ∙ ap (λ (n : ℕ). is_expired s.config.max_lifetime (max s.latest at) n || ltb k s.retired) r.birth_is)
+  old_is s at k now birth aged r = grind (arith, nat_tests)
 
   -- so what the code decides of it is what is decided
   pub closing_is : {s : StateView C} {at k now birth : ℕ} {aged closing : Bool} (broken : Bool) → Returned s at k now birth aged
@@ -221,10 +201,7 @@ module _ {C : Type 0} where
 
   pub kept_is : {s : StateView C} {at k now birth : ℕ} (c : C) {aged : Bool} {rs : RecordsView C} → Returned s at k now birth aged
       → rs ≡ machine.after_entry false k (record { place = Idle c; birth = birth; entered = now }) s.records → rs ≡ kept_records s at k c
-  kept_is {s} {at} {k} {now} {birth} c r rs_is =
-      rs_is
-      ∙ ap (λ (m : ℕ). machine.after_entry false k (record { place = Idle c; birth = m; entered = now }) s.records) r.birth_is
-      ∙ ap (λ (m : ℕ). machine.after_entry false k (record { place = Idle c; birth = birth_in (get s.records.places k); entered = m }) s.records) r.now_is
+  kept_is {s} {at} {k} {now} {birth} c r rs_is = grind (arith, nat_tests)
 
   pub kept_shown : (l : Ledger C) (at k : ℕ) (c : C) (st : Standing C) → record_of l k ≡ Some st → is_out st.place ≡ true
       → next_records l (with_record l k (at_entry c (max (latest l) at) (position l))) ≡ kept_records (shown l) at k c
@@ -250,11 +227,16 @@ module _ {C : Type 0} where
       → IsEndGrant (shown l) k grant → IsWant l (with_record l k after_end) grant
       × (next_records l (with_approvals false grant.count (with_record l k after_end)) ≡ ended_records (shown l) k grant)
   ended_shown l k st grant stands_there out_now granted =
-      let is = shown-closed (start l).first (position l) (peak l) (records l) false k st stands_there out_now in
-      let later = shown-closed (start l).first (suc (position l)) (peak l) (records l) false k st stands_there out_now
-      ∙ ap (machine.after_close false k) (later_shown l) in (
-        want_is l (with_record l k after_end) grant _ (ended_before (position l) (start l).first k (records l) (entered_before l)) is granted,
-        changed false l grant.count (with_record l k after_end) _ later,
+      grind (
+        arith,
+        nat_tests,
+        shown-closed (start l).first (position l) (peak l) (records l) false k st stands_there out_now,
+        shown-closed (start l).first (suc (position l)) (peak l) (records l) false k st stands_there out_now,
+        later_shown l,
+        want_is l (with_record l k after_end) grant,
+        ended_before (position l) (start l).first k (records l),
+        entered_before l,
+        changed false l grant.count (with_record l k after_end),
       )
 
   pub meets_returned_kept : {s : StateView C} {at k : ℕ} {c : C} {broken : Bool} {now birth : ℕ} {aged : Bool} {rs : RecordsView C} {n : Option
@@ -367,10 +349,7 @@ module _ {C : Type 0} where
 
   -- what a state shows is what its ledger says
   pub figures_told : (s : StateView C) (l : Ledger C) → Represents l s → record { connections = s.records.conns; idle = length s.records.idle; counts = s.counts } ≡ figures l
-  figures_told s l means =
-      let outcome : Figures = record { connections = conns_of (records l); idle = length (idle l); counts = counts l } in
-      ap (λ (t : StateView C). record { connections = t.records.conns; idle = length t.records.idle; counts = t.counts }) (sym means)
-      ∙ ap (λ (n : ℕ). record { connections = conns_of (records l); idle = n; counts = counts l }) (idle_tally l)
+  figures_told s l means = grind (arith, nat_tests, idle_tally l)
 
   -- ---- try
 
@@ -381,12 +360,7 @@ module _ {C : Type 0} where
   pub count_served : (l : Ledger C) (at g k : ℕ) (grant : Grant) (was : Counters) → counts l ≡ counts_held was
       → counts (Later l at (Try g) (Served k grant)) ≡ counts_held
       (served was (max (latest l) at) (first_wait_of (get (shown l).gets.places g)))
-  count_served l at g k grant was were =
-      let since : Option ℕ = first_wait_of (get_of l g) in
-      let wait : ℕ = micros_since (max (latest l) at) since in
-      ap (λ (x : Counts). record x { direct = x.direct + one (not (is_some since)); waited = x.waited + one (is_some since); wait_time = 1000 * min most_micros (wait_micros l + wait) }) were
-      ∙ ap (λ (m : ℕ). record (counts_held (served was (max (latest l) at) since)) { wait_time = 1000 * min most_micros (m + wait) }) (same_micros l was were)
-      ∙ ap (λ (o : Option Getting). counts_held (served was (max (latest l) at) (first_wait_of o))) (shown_get l (shown l) refl g)
+  count_served l at g k grant was were = grind (arith, nat_tests, same_micros l, shown_get l (shown l))
 
   -- whether what goes out is checked is what is decided
   checked_is : (l : Ledger C) (at k : ℕ) → asks_check l at k ≡ decided.asks_check (shown l) at k
@@ -433,9 +407,7 @@ module _ {C : Type 0} where
   pub due_waiting : (s : StateView C) {taken : RecordsView C} {alive_now d : ℕ} → taken ≡ s.records → alive_now ≡ s.gets.alive
       → d ≡ due s.config s.handles (taken.conns + taken.approved) (one (ltb taken.approved alive_now))
       → d ≡ due s.config s.handles (s.records.conns + s.records.approved) (one (ltb s.records.approved s.gets.alive))
-  due_waiting s {taken} taken_is alive_is d_is =
-      d_is ∙ ap (λ (n : ℕ). due s.config s.handles (taken.conns + taken.approved) (one (ltb taken.approved n))) alive_is
-      ∙ ap (λ (t : RecordsView C). due s.config s.handles (t.conns + t.approved) (one (ltb t.approved s.gets.alive))) taken_is
+  due_waiting s {taken} taken_is alive_is d_is = grind (arith, nat_tests)
 
   -- the records after the leave of a handle, where it is the last one or not
   abbrev left_shown : (l : Ledger C) (b : Bool) → RecordsView C
@@ -458,17 +430,7 @@ module _ {C : Type 0} where
         × (counts (Later l at e a) ≡ counts l) × (retired (Later l at e a) ≡ retired l)) → ((l : Ledger C) → IsLegal l → fits l e ≡ true → Known (shown l) → Row l at e a
         × (records (Later l at e a) ≡ records l) × (gets (Later l at e a) ≡ gets l))
         → IsStep s at e a (record s { latest = now; records = rs; gets = gs })
-    meets_quiet Known e a fit known rs_is gs_is quiet row =
-        meets_by Known (λ t. record t { latest = max t.latest at }) s _ at e a fit known (same_shown _ _ refl refl refl now_is refl rs_is gs_is refl)
-        (λ l legal f k.
-        let same = quiet l in
-        let r = row l legal f k in (
-          r.0,
-          same_shown _ _ refl refl same.3 same.0 same.1
-              (ap (λ (xs : List (Numbered (Standing C))). shown_records (start l).first (suc (position l)) (max (peak l) (conns_of xs + approved_of xs)) xs) r.1 ∙ records_kept l)
-              (ap (λ (xs : List (Numbered Getting)). shown_gets (start l).first_get (suc (position l)) (max (get_peak l) (alive_of xs)) xs) r.2 ∙ gets_kept l)
-              same.2,
-        ))
+    meets_quiet Known e a fit known rs_is gs_is quiet row = grind (arith, nat_tests, meets_by Known, same_shown, records_kept, gets_kept)
 
     pub meets_fill : {claimed : Bool} {g : Grant} {rs : RecordsView C} → Grants s claimed s.records g rs → IsStep s at (Fill claimed) (Granted g) (record s { latest = now; records = rs })
     meets_fill {claimed} {g} {rs} granted =

@@ -8,7 +8,7 @@ ghost use Rattle.bb8_types.specs.Settings.{settings_of, is_lawful};
 ghost use Rattle.bb8_core.specs.Run.{opening};
 ghost use Rattle.bb8_types.specs.Numbered.{one};
 ghost use Rattle.bb8_core.specs.StepBounds.{come_back, goes_out, if_fits, starts_out, IsBounded};
-ghost use Rattle.bb8_core.specs.StateView.{Represents, Steps, IsAsBefore, IsFitting, IsWithinLimits};
+ghost use Rattle.bb8_core.specs.StateView.{Represents, Steps, IsAsBefore, IsWithinLimits};
 ghost use Rattle.bb8_core.specs.Unfit.{Stepped, OrComesBack};
 ghost use Rattle.bb8_core.specs.StepAnswers.{answer_of_begin, answer_of_try, answer_of_checked_ok, answer_of_checked_err, reason_of, answer_of_give_up, answer_of_put_back, answer_of_detach, answer_of_opened, answer_of_failed, answer_of_add, HandsOut, ServesAtOnce, NotAtOnce, Starts, GivesBack, GivesBackInvalid, GivesBackHeld, HandsBack, Refuses};
 ghost use Rattle.bb8_types.specs.declared.standing.Holder.TheVariants.{Guard, Get};
@@ -129,11 +129,11 @@ impl<C: Drop, A> PoolInternals<C, A> {
         ensures bounds { IsBounded 0 0 0 0 self.old self.new }
     {
         if !self.fits_begin() {
-            self.accesses.end_unfit(AccessCounter::none());
+            self.accesses.end_unfit(AccessCounter::NONE);
             return Err(Unfit);
         }
         self.latest = self.latest.max(at.0);
-        self.accesses.end(AccessCounter::none());
+        self.accesses.end(AccessCounter::NONE);
         if !self.gets.has_number() {
             return Ok(BeginAnswer::Exhausted);
         }
@@ -160,8 +160,7 @@ impl<C: Drop, A> PoolInternals<C, A> {
         ensures bounds { IsBounded (one (is_some result)) 0 2 0 self.old self.new }
         ensures limits { IsWithinLimits self.old }
     {
-        self.limits();
-        let mut accesses = AccessCounter::none();
+        let mut accesses = AccessCounter::NONE;
         let now = self.latest.max(at.0);
         if checks_first(&self.config, &self.records, now, &mut accesses) {
             self.accesses.end(accesses);
@@ -195,7 +194,7 @@ impl<C: Drop, A> PoolInternals<C, A> {
     /// Begins a get and lets it try, as `begin` and `try_get` would, in one step. A get that is
     /// served leaves no entry. Any other is added in its final state, without a lookup. If no
     /// handle is alive, nothing changes.
-    // Inlining saves 37 instructions of a pair.
+    // Inlining saves 33 instructions of a pair.
     #[inline(always)]
     pub fn start(&mut self, at: Moment) -> Result<Started<C>, Unfit>
         ensures ok { IfOk result (λ outcome. Starts self.old at.0 outcome self.new) }
@@ -203,39 +202,24 @@ impl<C: Drop, A> PoolInternals<C, A> {
             × IsAsBefore self.old self.new) }
         ensures bounds { IsBounded (if_fits starts_out result) 0 2 0 self.old self.new }
     {
-        if !self.fits_begin() {
-            self.accesses.end_unfit(AccessCounter::none());
+        if self.handles == 0 {
+            self.accesses.end_unfit(AccessCounter::NONE);
             return Err(Unfit);
         }
-        Ok(self.start_fitting(at))
-    }
-
-    /// Does what `start` does, while a handle is alive.
-    // Inlining saves 51 instructions of a pair.
-    #[inline(always)]
-    fn start_fitting(&mut self, at: Moment) -> Started<C>
-        requires { IsFitting self.old acts.Begin }
-        ensures step { Starts self.old at.0 result self.new }
-        ensures bounds { IsBounded (starts_out result) 0 2 0 self.old self.new }
-    {
-        let mut accesses = AccessCounter::none();
+        let mut accesses = AccessCounter::NONE;
         let now = self.latest.max(at.0);
         self.latest = now;
-        if !self.gets.has_number() {
+        let Some(number) = self.gets.reserve_one() else {
             self.accesses.end(accesses);
-            return Started::Exhausted;
-        }
-        if !self.gets.reserve_one() {
-            self.accesses.end(accesses);
-            return Started::Memory;
-        }
-        self.counters.started += 1;
-        let next = GetKey {
-            number: self.gets.next_number(),
-            place: 0,
+            if self.gets.has_number() {
+                return Ok(Started::Memory);
+            }
+            return Ok(Started::Exhausted);
         };
-        let checked = checks_first(&self.config, &self.records, now, &mut accesses);
+        self.counters.started += 1;
+        let next = GetKey { number, place: 0 };
         let strategy = self.config.queue_strategy;
+        let checked = checks_first(&self.config, &self.records, now, &mut accesses);
         match self
             .records
             .take(strategy, holder(checked, next), &mut accesses)
@@ -246,7 +230,7 @@ impl<C: Drop, A> PoolInternals<C, A> {
                 let alive = self.gets.alive();
                 let due = due_waiting(&self.config, self.handles, &self.records, alive);
                 let grant = self.records.grant(due, false);
-                Started::Tried(get, TryAnswer::Waiting(grant))
+                Ok(Started::Tried(get, TryAnswer::Waiting(grant)))
             }
             Some((key, conn)) => {
                 let wanted = want_with_handle(&self.config, &self.records);
@@ -254,12 +238,12 @@ impl<C: Drop, A> PoolInternals<C, A> {
                 if checked {
                     let get = self.gets.bear_holding(key.number);
                     self.accesses.end(accesses);
-                    return Started::Tried(get, TryAnswer::Taken(key, conn, grant));
+                    return Ok(Started::Tried(get, TryAnswer::Taken(key, conn, grant)));
                 }
                 self.accesses.end(accesses);
                 let _ = self.gets.begin_and_end();
                 self.counters.serve(None, now);
-                Started::Tried(next, TryAnswer::Served(key, conn, grant))
+                Ok(Started::Tried(next, TryAnswer::Served(key, conn, grant)))
             }
         }
     }
@@ -278,7 +262,7 @@ impl<C: Drop, A> PoolInternals<C, A> {
         ensures connection { IfOk result (HandsOut self.old) }
         ensures bounds { IsBounded (if_fits goes_out result) 0 4 2 self.old self.new }
     {
-        let mut accesses = AccessCounter::none();
+        let mut accesses = AccessCounter::NONE;
         let getting = self.gets.getting(get, &mut accesses);
         if !is_trying(getting) {
             self.accesses.end_unfit(accesses);
@@ -337,7 +321,7 @@ impl<C: Drop, A> PoolInternals<C, A> {
             self.old at.0 (acts.CheckedOk get.number) result self.new }
         ensures bounds { IsBounded 0 0 2 2 self.old self.new }
     {
-        let mut accesses = AccessCounter::none();
+        let mut accesses = AccessCounter::NONE;
         match self.gets.finish_holding(get, &mut accesses) {
             None => {
                 self.accesses.end_unfit(accesses);
@@ -375,7 +359,7 @@ impl<C: Drop, A> PoolInternals<C, A> {
         ensures connection { OrComesBack GivesBackInvalid conn result }
         ensures bounds { IsBounded 0 (come_back result) 4 3 self.old self.new }
     {
-        let mut accesses = AccessCounter::none();
+        let mut accesses = AccessCounter::NONE;
         let Some(held) = self.gets.let_go(get, &mut accesses) else {
             self.accesses.end_unfit(accesses);
             return Err(conn);
@@ -419,7 +403,7 @@ impl<C: Drop, A> PoolInternals<C, A> {
         ensures connection { IfOk result (GivesBackHeld None) }
         ensures bounds { IsBounded 0 0 2 1 self.old self.new }
     {
-        let mut accesses = AccessCounter::none();
+        let mut accesses = AccessCounter::NONE;
         let Some(getting) = self.gets.end(get, &mut accesses) else {
             self.accesses.end_unfit(accesses);
             return Err(Unfit);
@@ -450,7 +434,7 @@ impl<C: Drop, A> PoolInternals<C, A> {
         ensures connection { OrComesBack (λ c. GivesBackHeld (Some c)) conn result }
         ensures bounds { IsBounded 0 (come_back result) 4 3 self.old self.new }
     {
-        let mut accesses = AccessCounter::none();
+        let mut accesses = AccessCounter::NONE;
         let Some((held, first_wait)) = self.gets.finish_holding(get, &mut accesses) else {
             self.accesses.end_unfit(accesses);
             return Err(conn);
@@ -520,7 +504,7 @@ impl<C: Drop, A> PoolInternals<C, A> {
         ensures bounds { IsBounded 0 (come_back result) 3 2 self.old self.new }
     {
         let now = self.latest.max(at.0);
-        let mut accesses = AccessCounter::none();
+        let mut accesses = AccessCounter::NONE;
         let ended = k.number < self.closed_below;
         let holder = Holder::Guard;
         match self.records.put_back(
@@ -570,7 +554,7 @@ impl<C: Drop, A> PoolInternals<C, A> {
             self.old at.0 (acts.Detach k.number) result self.new }
         ensures bounds { IsBounded 0 (come_back result) 2 2 self.old self.new }
     {
-        let mut accesses = AccessCounter::none();
+        let mut accesses = AccessCounter::NONE;
         if !self.records.is_guarded(k, &mut accesses) {
             self.accesses.end_unfit(accesses);
             return Err(Unfit);
@@ -600,7 +584,7 @@ impl<C: Drop, A> PoolInternals<C, A> {
         ensures bounds { IsBounded 0 0 3 1 self.old self.new }
     {
         let now = self.latest.max(at.0);
-        let mut accesses = AccessCounter::none();
+        let mut accesses = AccessCounter::NONE;
         if a.number < self.closed_below {
             if !self.records.end_claimed(a, &mut accesses) {
                 self.accesses.end_unfit(accesses);
@@ -632,7 +616,7 @@ impl<C: Drop, A> PoolInternals<C, A> {
             result self.new }
         ensures bounds { IsBounded 0 0 1 1 self.old self.new }
     {
-        let mut accesses = AccessCounter::none();
+        let mut accesses = AccessCounter::NONE;
         if !self.records.end_claimed(approval, &mut accesses) {
             self.accesses.end_unfit(accesses);
             return Err(Unfit);
@@ -653,12 +637,12 @@ impl<C: Drop, A> PoolInternals<C, A> {
         ensures bounds { IsBounded 0 0 1 0 self.old self.new }
     {
         if !self.fits_add() {
-            self.accesses.end_unfit(AccessCounter::none());
+            self.accesses.end_unfit(AccessCounter::NONE);
             return Err(conn);
         }
         let now = self.latest.max(at.0);
         self.latest = now;
-        let mut accesses = AccessCounter::none();
+        let mut accesses = AccessCounter::NONE;
         if broken {
             self.accesses.end(accesses);
             return Ok(AddAnswer::Broken(conn));

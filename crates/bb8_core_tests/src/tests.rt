@@ -1,24 +1,25 @@
 //! Tests against values from outside: rows that were worked out by hand, each call once, audits
 //! that must fail, and refused memory.
 
-use bb8_core::api::{Config, State, Statistics};
-use bb8_core::internals::Grant;
+use bb8_core::api::{Config, Moment, State, Statistics};
+use bb8_core::internals::{Grant, PoolInternals};
+use bb8_core::replay::{Act, Answer, Event, Known, apply};
+use bb8_runner::grammar::event_of;
+use bb8_runner::lines::script_of;
+use bb8_runner::text::output;
+use std::alloc::Global;
 use std::fmt::Debug;
 use std::process::Abort;
-use std::time::Duration;
+use std::test::Fail;
 
-mod at_once;
-mod checks;
 mod crowd;
-mod handing;
 mod journals;
-mod reaps;
+mod reads;
 mod replays;
 mod scripts;
 mod steps;
 mod surface;
 mod tasks;
-mod threads;
 
 /// Ends the test if the found value is not the wanted one, and prints both.
 fn assert_equal<T: PartialEq + Debug + Drop>(rt: &impl Abort, found: T, wanted: T) {
@@ -73,27 +74,61 @@ fn unchecked(max_size: u32, min_idle: Option<u32>) -> Config {
     }
 }
 
-/// Returns the state of a pool with these connections, after this many gets were served at once and
-/// this many connections were opened.
-fn served(connections: u32, idle_connections: u32, gets: u64, created: u64) -> State {
-    let statistics = Statistics {
-        get_started: gets,
-        get_direct: gets,
-        get_waited: 0,
-        get_timed_out: 0,
-        get_cancelled: 0,
-        get_wait_time: Duration::from_nanos(0),
-        connections_created: created,
-        connections_closed_broken: 0,
-        connections_closed_invalid: 0,
-        connections_closed_max_lifetime: 0,
-        connections_closed_idle_timeout: 0,
-        connections_closed_retired: 0,
-        connections_detached: 0,
-    };
+/// Returns the state of a pool to which nothing has happened.
+fn nothing() -> State {
     State {
-        connections,
-        idle_connections,
-        statistics,
+        connections: 0,
+        idle_connections: 0,
+        statistics: Statistics::default(),
+    }
+}
+
+/// A pool of numbers whose events and results are lines, as in transcripts.
+#[derive(Drop)]
+struct Player {
+    alloc: Global,
+    pool: PoolInternals<u64>,
+    known: Known,
+}
+
+impl Player {
+    /// Returns an empty pool with the settings of this line.
+    fn new(alloc: Global, config: &str) -> Result<Player, Fail> {
+        let Ok(script) = script_of(alloc, &[config.as_bytes()]) else {
+            return Err(Fail::from("no configuration"));
+        };
+        Ok(Player {
+            alloc,
+            pool: PoolInternals::new(alloc, script.config),
+            known: Known::new(alloc, 0, 0),
+        })
+    }
+
+    /// Makes an event at this moment, and returns its result.
+    fn makes(&mut self, at: u64, act: Act) -> Answer {
+        let at = Moment(at);
+        apply(&mut self.pool, &mut self.known, Event { at, act })
+    }
+
+    /// Makes the event of each line and asserts its result, which follows after ` | `. If the line
+    /// goes on, it has the number of entries that the step read, and how many it searched for.
+    fn plays(&mut self, rt: &impl Abort, lines: &str) -> Result<(), Fail> {
+        for line in lines.split_terminator('\n') {
+            let (text, wanted) = line.split_once(" | ").unwrap_or((line, ""));
+            let Some(event) = event_of(self.alloc, text.as_bytes())? else {
+                return Err(Fail::from("no event"));
+            };
+            let answer = apply(&mut self.pool, &mut self.known, event);
+            let (read, searched) = (self.pool.examined(), self.pool.searched());
+            let written = output(self.alloc, &[answer], nothing())?;
+            let result = written.split('\n').next().unwrap_or("");
+            let (wanted, counts) = wanted.split_once(" | ").unwrap_or((wanted, ""));
+            assert_eq!(rt; result, wanted, "{line}");
+            if !counts.is_empty() {
+                let found = format!(in self.alloc; "{read} {searched}")?;
+                assert_eq!(rt; found.as_str(), counts, "{line}");
+            }
+        }
+        Ok(())
     }
 }

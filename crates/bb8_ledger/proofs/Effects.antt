@@ -1,6 +1,6 @@
 -- What one event of a legal ledger does to the records and to the gets, by the place that it moves
 -- from and the place that it moves to.
-use Rattle.bb8_ledger.proofs.Words.{ne_eqb, ◌≡◌, ◌⊎◌, ℕ, zero, suc, ◌+◌, ◌<◌, ◌≤◌, max, Bool, true, false, cond, eqb, List, [], ◌∷◌, ◌++◌, length, take, drop, ◌-◌, map, Option, Some, None, slice_get, option_map, option_and_then, refl, sym, ap, ◌∙◌, inl, inr, arith, subst, length-append, length-map, take-length, unwrap_or, Place, Unclaimed, Idle, Held, Guarded, Standing, Holder, Guard, Get, Settings, is_lawful, Act, Leave, Answer, Left, Unfit, Numbered, at_number, update, numbers, in_order, one, standing_at, after_end, after_end_where, Ledger, Opening, Later, Start, start, position, latest, handles, records, conns, approved, idle_count, out, first_idle, unclaimed, record_of, with_ended, outlived, idled, reaped, over_idle_at, tally_places, conns_of, approved_of, idle_of, at_place, entry, at_entry, approval, with_approvals, stands, is_conn, is_approval, is_idle, is_out, is_claimed, is_guarded, is_held_by, idles_out, lives_out, is_left, with_place, Row, IsLegal, Allowed, fits, with_record, reaped_at, outlived_at, idled_at, retired_at, retiring, standing_is, unclaimed_is, claimed_is, guarded_is, idle_is, and_right, ◌*◌, MatchBool, Claimed}
+use Rattle.bb8_ledger.proofs.Words.{ne_eqb, ◌≡◌, ◌⊎◌, ℕ, zero, suc, ◌+◌, ◌<◌, ◌≤◌, max, Bool, true, false, cond, eqb, List, [], ◌∷◌, ◌++◌, length, take, drop, ◌-◌, map, Option, Some, None, slice_get, option_map, option_and_then, refl, sym, ap, ◌∙◌, inl, inr, arith, subst, length-append, length-map, take-length, unwrap_or, Place, Unclaimed, Idle, Held, Guarded, Standing, Holder, Guard, Get, Settings, is_lawful, Act, Leave, Answer, Left, Unfit, Numbered, at_number, update, numbers, in_order, one, standing_at, after_end, after_end_where, Ledger, Opening, Later, Start, start, position, latest, handles, records, conns, approved, idle_count, out, first_idle, unclaimed, record_of, with_ended, outlived, idled, reaped, over_idle_at, tally_places, conns_of, approved_of, idle_of, at_place, entry, at_entry, approval, with_approvals, stands, is_conn, is_approval, is_idle, is_out, is_claimed, is_guarded, is_held_by, idles_out, lives_out, is_left, with_place, Row, IsLegal, Allowed, fits, with_record, reaped_at, outlived_at, idled_at, retired_at, retiring, standing_is, unclaimed_is, claimed_is, guarded_is, idle_is, and_right, ◌*◌, MatchBool, Claimed, nat_tests}
 use Rattle.bb8_types.proofs.Numbered as numbered
 use Rattle.bb8_ledger.proofs.Facts.{conns_split}
 use Rattle.bb8_ledger.proofs.Waiters.{at_update, changed_tally}
@@ -12,9 +12,7 @@ by_fit false P Q G m fit misfit = misfit refl m
 
 -- a number that is not one is less or more
 not_one : (n : ℕ) → eqb n 1 ≡ false → 1 ≤ (n - 1) + (1 - n)
-not_one zero e = omega arith
-not_one (suc zero) e = cc
-not_one (suc (suc n)) e = omega arith
+not_one n e = grind (arith, nat_tests)
 
 module _ {R : Type 0} where
   -- what is shown of an element, once one has changed that shows this then
@@ -30,9 +28,7 @@ module _ {R : Type 0} where
   -- one has come that shows as much as none
   pub appended_same : {X : Type 0} (show : Option R → X) (rs : List R) (n q : ℕ) (new : R) → show (Some new) ≡ show None
       → show (at_number n (rs ++ new ∷ []) q) ≡ show (at_number n rs q)
-  appended_same show rs n q new is =
-      ap show (numbered.at-append rs new n q)
-      ∙ elim (numbered.same_or_not q (n + length rs)) [ inl t ↦ rw t.0 (is ∙ sym (ap show (numbered.at-past rs n q (omega (arith, t.1))))) | inr t ↦ rw t.0 refl ]
+  appended_same show rs n q new is = grind (arith, nat_tests, numbered.at-append rs new n q, numbered.same_or_not q (n + length rs), numbered.at-past rs n q)
 
 module _ {C : Type 0} where
   -- ---- one event after another
@@ -48,9 +44,7 @@ module _ {C : Type 0} where
       → ((l : Ledger C) (at : ℕ) (e : Act C) (a : Answer) → IsLegal l → fits l e ≡ true → Row l at e a → P l → P (Later l at e a))
       → (l : Ledger C) → IsLegal l → P l
   each_legal P opening unfit row (Opening s) legal = opening s legal
-  each_legal P opening unfit row (Later l at e a) legal =
-      let before : P l = each_legal P opening unfit row l legal.0 in
-      each_allowed (λ b. P (Later l at e b)) l at e a legal.1 (unfit l at e before) (λ f r. row l at e a legal.0 f r before)
+  each_legal P opening unfit row (Later l at e a) legal = grind (arith, nat_tests, each_legal P opening unfit row l legal.0, each_allowed)
 
   -- ---- the state of a record
 
@@ -86,8 +80,7 @@ module _ {C : Type 0} where
   turns_by l k test p q f only h to = grind (arith, standing_is test (record_of l k) h)
 
   held_by : (g : ℕ) (p : Place C) → is_held_by g p ≡ true → p ≡ Held g
-  held_by g (Held m) h = ap (λ (n : ℕ). Held n) (sym (numbered.tested g m h))
-  held_by g _ h = cc
+  held_by g p h = grind (arith, nat_tests)
 
   pub held_turns : (l : Ledger C) (g k : ℕ) (q : Option (Place C)) (f : Numbered (Standing C) → Numbered (Standing C))
       → stands (is_held_by g) (record_of l k) ≡ true
@@ -159,10 +152,7 @@ module _ {C : Type 0} where
 
   -- a connection is added
   pub adds_sized : (l : Ledger C) (at : ℕ) (c : C) → Sized l None (Some (Idle c)) 1 0 (records l ++ entry c (max (latest l) at) (max (latest l) at) (position l) ∷ [])
-  adds_sized l at c =
-      let new : Numbered (Standing C) = entry c (max (latest l) at) (max (latest l) at) (position l) in
-      let more : (test : Place C → Bool) → tally_places test (records l ++ new ∷ []) ≡ tally_places test (records l) + one (test (Idle c)) = λ test. appended_tally test (records l) new in
-      omega (arith, more is_conn, more is_approval, more is_idle, more is_out, length-append (records l) (new ∷ []))
+  adds_sized l at c = grind (arith, nat_tests, appended_tally, length-append (records l))
 
   -- The state of each record once so many approvals are made.
   pub record Approved (n : ℕ) (rs new : List (Numbered (Standing C))) : Type 0 where
@@ -174,15 +164,7 @@ module _ {C : Type 0} where
 
   pub approves : (claimed : Bool) (n : ℕ) (rs : List (Numbered (Standing C))) → Approved n rs (with_approvals claimed n rs)
   approves claimed zero rs = omega arith
-  approves claimed (suc n) rs = one_more claimed (with_approvals claimed n rs) (approves claimed n rs)
-    where
-      more : (test : Place C → Bool) (b : Bool) (new : List (Numbered (Standing C)))
-          → tally_places test (new ++ approval b ∷ []) ≡ tally_places test new + one (stands test (approval {C = C} b).standing)
-      more test b new = appended_tally test new (approval b)
-
-      one_more : (b : Bool) (new : List (Numbered (Standing C))) → Approved n rs new → Approved (suc n) rs (new ++ approval b ∷ [])
-      one_more true new s = omega (arith, s, more is_conn true new, more is_approval true new, more is_idle true new, more is_out true new, length-append new (approval true ∷ []))
-      one_more false new s = omega (arith, s, more is_conn false new, more is_approval false new, more is_idle false new, more is_out false new, length-append new (approval false ∷ []))
+  approves claimed (suc n) rs = grind (arith, nat_tests, approves claimed n rs, appended_tally, length-append)
 
   pub granted_sized : {l : Ledger C} {p q : Option (Place C)} {more : ℕ} {rs : List (Numbered (Standing C))} (claimed : Bool) (n : ℕ)
       → Sized l p q more 0 rs → Sized l p q more n (with_approvals claimed n rs)
@@ -227,11 +209,7 @@ module _ {C : Type 0} where
   -- approvals are made, which nobody has
   pub granted_holder : (first j : ℕ) (claimed : Bool) (n : ℕ) (rs : List (Numbered (Standing C))) → holder_at first (with_approvals claimed n rs) j ≡ holder_at first rs j
   granted_holder first j claimed zero rs = refl
-  granted_holder first j claimed (suc n) rs = appended_same holder (with_approvals claimed n rs) first j (approval claimed) (free claimed) ∙ granted_holder first j claimed n rs
-    where
-      free : (b : Bool) → holder (Some (approval {C = C} b)) ≡ None
-      free true = refl
-      free false = refl
+  granted_holder first j claimed (suc n) rs = grind (arith, nat_tests, appended_same holder (with_approvals claimed n rs) first j (approval claimed), granted_holder first j claimed n rs)
 
   -- What the last leave does to a record: it is not idle then, it is no approval that it was not,
   -- and who has it has it.
@@ -247,12 +225,7 @@ module _ {C : Type 0} where
   -- the last leave
   pub left_holder : (first j : ℕ) (rs : List (Numbered (Standing C))) → holder_at first (map (after_end_where is_left) rs) j ≡ holder_at first rs j
   left_holder first j [] = refl
-  left_holder first j (r ∷ rs) = pick (eqb j first) (left_holder (suc first) j rs)
-    where
-      pick : (b : Bool) → holder_at (suc first) (map (after_end_where is_left) rs) j ≡ holder_at (suc first) rs j
-          → holder (cond b (Some (after_end_where is_left r)) (at_number (suc first) (map (after_end_where is_left) rs) j)) ≡ holder (cond b (Some r) (at_number (suc first) rs j))
-      pick true later = (swept r).holder
-      pick false later = later
+  left_holder first j (r ∷ rs) = grind (arith, nat_tests, left_holder (suc first) j rs)
 
   -- The sizes after a reap.
   pub record AreReaped (l : Ledger C) (closed life n : ℕ) (rs : List (Numbered (Standing C))) : Type 0 where
@@ -284,12 +257,7 @@ module _ {C : Type 0} where
 
       pick : (b : Bool) → with_ended (suc n) ks rs ≡ map (after_end_where test) rs
           → with_ended n (cond b (n ∷ ks) ks) (r ∷ rs) ≡ cond b (after_end r) r ∷ map (after_end_where test) rs
-      pick true ih =
-          ap (λ (b : Bool). with_ended n ks (cond b (after_end r) r ∷ update (suc n) n after_end rs)) (numbered.eqb_self n)
-          ∙ ap (λ (xs : List (Numbered (Standing C))). with_ended n ks (after_end r ∷ xs)) (numbered.update_below rs (suc n) n after_end (omega arith))
-          ∙ skip (after_end r)
-          ∙ ap (λ (xs : List (Numbered (Standing C))). after_end r ∷ xs) ih
-      pick false ih = skip r ∙ ap (λ (xs : List (Numbered (Standing C))). r ∷ xs) ih
+      pick b ih = grind (arith, nat_tests, ks, numbered.eqb_self n, numbered.update_below rs (suc n) n after_end, skip (after_end r), skip r)
 
   -- ---- idle records end, one after another
 
@@ -352,8 +320,7 @@ module _ {C : Type 0} where
   front_ended first line is (suc q) (k ∷ xs) rs h = front_ended first line is q xs (update first k after_end rs) (is.leaves rs k xs h)
 
   pub lives_idle : (config : Settings) (now : ℕ) (o : Option (Standing C)) → lives_out config now o ≡ true → stands is_idle o ≡ true
-  lives_idle config now None e = cc
-  lives_idle config now (Some s) e = (and_right (is_idle s.place) _ e).0
+  lives_idle config now o e = grind (arith, nat_tests)
 
   pub idles_idle : (config : Settings) (now : ℕ) (o : Option (Standing C)) → idles_out config now o ≡ true → stands is_idle o ≡ true
   idles_idle config now None e = cc
@@ -390,10 +357,7 @@ module _ {C : Type 0} where
   }
     where
       one_place : (p q : ℕ) (r : Numbered (Standing C)) → over_idle_at s.config now p r ≡ true → over_idle_at s.config now q r ≡ true → p ≡ q
-      one_place p q r a b =
-          let at_p : r.position ≡ p = numbered.tested r.position p (and_right (idles_out s.config now r.standing) _ a).1 in
-          let at_q : r.position ≡ q = numbered.tested r.position q (and_right (idles_out s.config now r.standing) _ b).1 in
-          omega arith
+      one_place p q r a b = grind (arith, nat_tests)
 
   -- ---- what a reap ends
 
@@ -450,10 +414,7 @@ module _ {C : Type 0} where
   left_sweep : (rs : List (Numbered (Standing C))) → let new : List (Numbered (Standing C)) = map (after_end_where is_left) rs in
       (idle_of new ≡ 0) × (approved_of new ≤ approved_of rs) × (tally_places is_out new ≡ tally_places is_out rs)
   left_sweep [] = (refl, omega arith, refl)
-  left_sweep (r ∷ rs) =
-      let ih = left_sweep rs in
-      let here = swept r in
-      (omega (arith, ih.0, here.idle), omega (arith, ih.1, here.approval), omega (arith, ih.2, here.out))
+  left_sweep (r ∷ rs) = grind (arith, nat_tests, left_sweep rs)
 
   -- The sizes after a close.
   pub record AreShut (l : Ledger C) (rs : List (Numbered (Standing C))) : Type 0 where
@@ -464,16 +425,7 @@ module _ {C : Type 0} where
     pub none_idle : idle_of rs ≡ 0
 
   pub shut_sized : (l : Ledger C) → AreShut l (map (after_end_where is_left) (records l))
-  shut_sized l =
-      let rs : List (Numbered (Standing C)) = map (after_end_where is_left) (records l) in
-      let sweep = left_sweep (records l) in
-      record {
-        conns_few = omega (arith, conns_split rs, conns_split (records l), sweep.0);
-        approved_few = sweep.1;
-        out_are = sweep.2;
-        many_are = omega (arith, length-map (records l) (after_end_where is_left));
-        none_idle = sweep.0;
-      }
+  shut_sized l = search (arith, left_sweep, conns_split, length-map)
 
   -- The sizes after the leave of a handle.
   pub record AreLeft (l : Ledger C) (rs : List (Numbered (Standing C))) : Type 0 where

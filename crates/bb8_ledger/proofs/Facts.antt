@@ -1,6 +1,5 @@
 -- What holds of every ledger.
-use Rattle.bb8_ledger.proofs.Words.{◌≡◌, ℕ, suc, ◌+◌, ◌≤◌, max, true, false, List, [], ◌∷◌, length, Option, Some, None, refl, sym, ◌∙◌, arith, option_map, ◌-◌, Place, Unclaimed, Standing, GetPlace, Active, Holding, Getting, QueueStrategy, Fifo, Lifo, Act, Begin, Try, CheckedOk, CheckedErr, GiveUp, PutBack, Detach, Evict, Opened, Add, Answer, Begun, Served, Taken, Kept, Closed, GaveUp, Entered, Added, Unfit, Numbered, update, in_order, tally, one, after_end, Ledger, Opening, Later, Start, start, position, latest, records, with_ended, gets, gets_after, conns, approved, conns_of, idle_of, alive, peak, get_peak, idle_at, unnotified_at, at_place, new_get, get_at_place, at_wait, with_notice, idle, idle_count, unnotified, is_unnotified, gets_stand, stands, is_idle, is_conn, is_out, get_with_place, first_of, Before, and_right, standing_is, Waiting}
-use Rattle.bb8_types.specs.declared.standing.GetPlace.TheVariants as get_places
+use Rattle.bb8_ledger.proofs.Words.{◌≡◌, ℕ, suc, ◌+◌, ◌≤◌, max, true, false, List, [], ◌∷◌, length, Option, None, refl, arith, option_map, ◌-◌, Place, Standing, GetPlace, Active, Holding, Getting, QueueStrategy, Act, Begin, Try, CheckedOk, CheckedErr, GiveUp, PutBack, Detach, Evict, Opened, Add, Answer, Begun, Served, Taken, Kept, Closed, GaveUp, Entered, Added, Unfit, Numbered, update, in_order, tally, after_end, Ledger, Opening, Later, Start, start, position, latest, records, with_ended, gets, gets_after, conns, approved, conns_of, idle_of, alive, peak, get_peak, idle_at, unnotified_at, at_place, new_get, get_at_place, at_wait, with_notice, idle, idle_count, unnotified, is_unnotified, gets_stand, stands, is_idle, is_out, get_with_place, first_of, Before, and_right, standing_is, Waiting, nat_tests}
 use Rattle.bb8_ledger.specs.Ledger.{waiting}
 use Rattle.bb8_types.proofs.Numbered as numbered
 use Rattle.bb8_ledger.proofs.Waiters.{none_past}
@@ -8,24 +7,21 @@ use Rattle.bb8_ledger.proofs.Moments.{AreUpTo, up_to_latest}
 
 -- a test that a get's place fails
 off_get : (p : GetPlace) (o : Option Getting) → is_unnotified p ≡ false → gets_stand is_unnotified (option_map (get_with_place p) o) ≡ true → ⊥
-off_get p None off h = cc
-off_get p (Some g) off h = let clash : false ≡ true = sym off ∙ h in cc
+off_get p o off h = grind (arith, nat_tests)
 
 module _ (first m : ℕ) where
   get_put_before : (k : ℕ) (p : GetPlace) (gs : List (Numbered Getting)) → is_unnotified p ≡ false → Before unnotified_at m gs → Before unnotified_at m (update first k (get_at_place p) gs)
   get_put_before k p gs off b = grind (arith, numbered.before-update, off_get, and_right)
 
   notify_before : (n : Option ℕ) (gs : List (Numbered Getting)) → Before unnotified_at m gs → Before unnotified_at m (with_notice first n gs)
-  notify_before None gs b = b
-  notify_before (Some g) gs b = get_put_before g (get_places.Waiting true) gs refl b
+  notify_before n gs b = grind (arith, nat_tests, get_put_before)
 
 waits_before : (first m now k : ℕ) (gs : List (Numbered Getting)) → Before unnotified_at (suc m) gs → Before unnotified_at (suc m) (update first k (at_wait now m) gs)
 waits_before first m now k gs b = grind (arith, numbered.before-update_kept)
 
 -- where nobody is first there is nobody
 pub none_first : (strategy : QueueStrategy) (xs : List ℕ) → first_of strategy xs ≡ None → length xs ≡ 0
-none_first Fifo xs h = omega (arith, none_past xs 0 h)
-none_first Lifo xs h = omega (arith, none_past xs (length xs - 1) h)
+none_first strategy xs h = grind (arith, nat_tests, none_past xs 0, none_past xs (length xs - 1))
 
 module _ {C : Type 0} where
   -- ---- nobody entered, or began to wait, after now
@@ -45,13 +41,7 @@ module _ {C : Type 0} where
     where
       go : (rs : List (Numbered (Standing C))) → AreUpTo (latest l) (position l) rs → Before idle_at (position l) rs
       go [] u = tt
-      go (r ∷ rs) u = (
-        λ p h.
-            let t = and_right (stands is_idle r.standing) _ h in
-            let s = standing_is is_idle r.standing t.0 in
-            omega (arith, (u.0 s.0 s.1).2 s.2, numbered.tested r.position p t.1),
-        go rs u.1,
-      )
+      go (r ∷ rs) u = grind (arith, nat_tests, and_right (stands is_idle r.standing), standing_is is_idle r.standing, numbered.tested r.position, go rs u.1)
 
   gets_before : (s : Start) (m now : ℕ) (gs : List (Numbered Getting)) (e : Act C) (a : Answer) → Before unnotified_at (suc m) gs → Before unnotified_at (suc m) (gets_after s m now gs e a)
   gets_before s m now gs e Unfit b = b
@@ -103,12 +93,4 @@ module _ {C : Type 0} where
 
   pub conns_split : (rs : List (Numbered (Standing C))) → conns_of rs ≡ idle_of rs + tally (λ r. stands is_out r.standing) rs
   conns_split [] = omega arith
-  conns_split (r ∷ rs) = omega (arith, conns_split rs, place r.standing)
-    where
-      by_place : (p : Place C) → one (is_conn p) ≡ one (is_idle p) + one (is_out p)
-      by_place Unclaimed = omega arith
-      by_place _ = omega arith
-
-      place : (o : Option (Standing C)) → one (stands is_conn o) ≡ one (stands is_idle o) + one (stands is_out o)
-      place None = omega arith
-      place (Some s) = by_place s.place
+  conns_split (r ∷ rs) = grind (arith, nat_tests, conns_split rs)

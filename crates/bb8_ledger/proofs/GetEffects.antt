@@ -1,6 +1,6 @@
 -- What one event does to the gets, where a get that was not in line ends or moves to a place where
 -- it does not wait.
-use Rattle.bb8_ledger.proofs.Words.{length-append, ◌≤◌, max, ◌≡◌, ℕ, suc, ◌+◌, ◌-◌, min, Bool, true, false, cond, eqb, List, [], ◌∷◌, ◌++◌, length, Option, Some, None, is_some, slice_get, option_map, option_and_then, refl, sym, ap, ◌∙◌, arith, GetPlace, Active, Holding, Getting, Numbered, at_number, update, in_order, one, standing_at, after_end, Ledger, start, position, latest, gets, alive, notified, unnotified, unnotified_at, oldest_waiter, get_of, tally_gets, alive_of, new_get, get_at_place, at_wait, with_notice, holds, held_in, gets_stand, is_notified, is_unnotified, get_with_place, is_trying, Before, and_right, Waiting, inl, inr}
+use Rattle.bb8_ledger.proofs.Words.{length-append, ◌≤◌, max, ◌≡◌, ℕ, suc, ◌+◌, ◌-◌, min, Bool, true, false, cond, eqb, List, [], ◌∷◌, ◌++◌, length, Option, Some, None, is_some, slice_get, option_and_then, refl, sym, ap, ◌∙◌, arith, GetPlace, Active, Holding, Getting, Numbered, at_number, update, in_order, one, standing_at, after_end, Ledger, start, position, latest, gets, alive, notified, unnotified, unnotified_at, oldest_waiter, get_of, tally_gets, alive_of, new_get, get_at_place, at_wait, with_notice, holds, held_in, gets_stand, is_notified, is_unnotified, is_trying, Before, and_right, Waiting, nat_tests}
 use Rattle.bb8_types.proofs.Numbered as numbered
 use Rattle.bb8_ledger.proofs.Facts.{waited_before}
 use Rattle.bb8_ledger.proofs.Waiters.{not_waiting, one_few, waits_on_same, begins_counted, waiters_few, IsGivenUp, given_up_counted, alive_counted, begins_alive, getting_is, is_waiting, changed_tally, notify_length, notify_alive, notify_counted, same_line, InLine, line_later, line_left, line_notified}
@@ -29,12 +29,7 @@ alive_get (Some st) h = (st, refl)
 
 -- the get that holds a connection
 pub holding_is : (o : Option Getting) (k : ℕ) → holds o ≡ Some k → (s : Getting) × (o ≡ Some s) × (s.place ≡ Holding k)
-holding_is None k h = cc
-holding_is (Some s) k h = (s, refl, go s.place h)
-  where
-    go : (p : GetPlace) → held_in p ≡ Some k → p ≡ Holding k
-    go (Holding j) h = let same : j ≡ k = cc in ap Holding same
-    go _ h = cc
+holding_is o k h = grind (arith, nat_tests)
 
 module _ {C : Type 0} where
   -- the get g is alive and not in line, and is changed to one that does not wait: b more are alive
@@ -102,15 +97,7 @@ module _ {C : Type 0} where
     -- how many are alive and wait then
     pub left_sums : (alive_of left_gets + 1 ≡ alive l + b) × (length left_gets ≡ length (gets l)) × (tally_gets is_unnotified left_gets ≡ unnotified l)
         × (tally_gets is_notified left_gets + one (is_notified t.standing.place) ≡ notified l) × (one (is_notified t.standing.place) ≤ 1)
-    left_sums = omega (
-      arith,
-      left_alive,
-      numbered.length-update (gets l) (start l).first_get g f,
-      left_tally is_unnotified (not_waiting (f left_at.0).standing (t.out left_at.0)).0,
-      ap one t.off,
-      left_tally is_notified (not_waiting (f left_at.0).standing (t.out left_at.0)).1,
-      one_few (is_notified t.standing.place),
-    )
+    left_sums = grind (arith, nat_tests, left_alive, numbered.length-update, left_tally, not_waiting, one_few)
 
     -- and once the oldest waiter is notified
     pub left_told : (n : Option ℕ) → n ≡ oldest_waiter l
@@ -214,8 +201,7 @@ put_nothing p none x = grind arith
 
 -- a get at a place that holds nothing
 stands_quiet : (test : GetPlace → Bool) → ((k : ℕ) → test (Holding k) ≡ false) → (o : Option Getting) → gets_stand test o ≡ true → holds o ≡ None
-stands_quiet test off None e = refl
-stands_quiet test off (Some s) e = grind arith
+stands_quiet test off o e = grind (arith, nat_tests)
 
 pub waits_nothing : (now p : ℕ) (x : Numbered Getting) → holds (at_wait now p x).standing ≡ None
 waits_nothing now p x = grind arith
@@ -231,27 +217,18 @@ oldest_quiet l n is g e = grind (arith, numbered.in_order_member, stands_quiet, 
 -- one get has changed, and holds nothing
 pub dropped_holds : (first g : ℕ) (f : Numbered Getting → Numbered Getting) (gs : List (Numbered Getting)) (q : ℕ)
     → ((x : Numbered Getting) → holds (f x).standing ≡ None) → held_at first (update first g f gs) q ≡ cond (eqb q g) None (held_at first gs q)
-dropped_holds first g f gs q nothing = updated_shows behind gs first g q f None (none (at_number first gs g))
-  where
-    none : (o : Option (Numbered Getting)) → behind (option_map f o) ≡ None
-    none None = refl
-    none (Some x) = nothing x
+dropped_holds first g f gs q nothing = grind (arith, nat_tests, updated_shows behind gs first g q f)
 
 -- it takes the connection j
 pub taken_holds : (first g j : ℕ) (gs : List (Numbered Getting)) (q : ℕ) (s : Getting) → standing_at first gs g ≡ Some s
     → held_at first (update first g (get_at_place (Holding j)) gs) q ≡ cond (eqb q g) (Some j) (held_at first gs q)
-taken_holds first g j gs q s there =
-    let m = numbered.standing_found gs first g s there in
-    updated_shows behind gs first g q (get_at_place (Holding j)) (Some j)
-    (ap (λ (o : Option (Numbered Getting)). behind (option_map (get_at_place (Holding j)) o)) m.1
-    ∙ ap (λ (o : Option Getting). holds (option_map (get_with_place (Holding j)) o)) m.2)
+taken_holds first g j gs q s there = grind (arith, nat_tests, numbered.standing_found gs first g s there, updated_shows behind gs first g q (get_at_place (Holding j)) (Some j))
 
 -- a get that holds nothing is notified, or none
 pub told_holds : (first : ℕ) (n : Option ℕ) (gs : List (Numbered Getting)) (q : ℕ) → ((g : ℕ) → n ≡ Some g → held_at first gs g ≡ None)
     → held_at first (with_notice first n gs) q ≡ held_at first gs q
 told_holds first None gs q quiet = refl
-told_holds first (Some g) gs q quiet = dropped_holds first g (get_at_place (Waiting true)) gs q (put_nothing (Waiting true) refl)
-    ∙ elim (numbered.same_or_not q g) [ inl t ↦ rw t.0 (sym (ap (held_at first gs) t.1 ∙ quiet g refl)) | inr t ↦ rw t.0 refl ]
+told_holds first (Some g) gs q quiet = grind (arith, nat_tests, dropped_holds first g (get_at_place (Waiting true)) gs q, put_nothing (Waiting true), numbered.same_or_not q g)
 
 -- and so it is once a get has changed that holds nothing then
 pub told_dropped : (first g : ℕ) (f : Numbered Getting → Numbered Getting) (n : Option ℕ) (gs : List (Numbered Getting)) (q : ℕ)

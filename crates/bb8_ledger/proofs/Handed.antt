@@ -1,5 +1,5 @@
 -- If each notification is handed off, waiters are served in order.
-use Rattle.bb8_ledger.proofs.Words.{eq-eqb, ◌≡◌, ◌≢◌, ◌⊎◌, ℕ, suc, ◌+◌, ◌-◌, ◌<◌, ◌≤◌, min, max, Bool, true, false, cond, eqb, List, [], ◌∷◌, length, Option, Some, None, is_some, slice_get, option_map, option_and_then, refl, sym, ap, ◌∙◌, arith, subst, inl, inr, IfSome, GetPlace, Holding, Waiting, Getting, Place, Idle, Standing, Numbered, at, at_number, update, in_order, numbers, tally, one, standing_at, after_end, gets_stand, stands, is_unnotified, is_notified, is_trying, is_idle, get_with_place, unnotified_at, get_at_place, with_notice, entry, Act, Try, Answer, Unfit, Served, Taken, Ledger, Later, start, position, latest, records, gets, next, idle_count, notified, handles, conns, approved, first_idle, record_of, get_of, with_record, Row, begins, waits_on, serves, takes_out, waits, check_fails, gives_up, gives_up_kept, gives_up_closed, keeps, returns_closed, detaches, evicts, opens, adds, asks_for, IsLegal, fits, and_right, standing_is, Guarded, MatchBool, Allowed}
+use Rattle.bb8_ledger.proofs.Words.{eq-eqb, ◌≡◌, ◌≢◌, ◌⊎◌, ℕ, suc, ◌+◌, ◌-◌, ◌<◌, ◌≤◌, min, Bool, true, false, cond, eqb, List, [], ◌∷◌, length, Option, Some, None, is_some, slice_get, option_map, option_and_then, refl, sym, ap, ◌∙◌, arith, subst, inl, inr, IfSome, GetPlace, Holding, Waiting, Getting, Place, Idle, Standing, Numbered, at, at_number, update, in_order, numbers, tally, one, standing_at, after_end, gets_stand, stands, is_unnotified, is_notified, is_trying, is_idle, get_with_place, unnotified_at, get_at_place, with_notice, Act, Try, Answer, Served, Taken, Ledger, Later, start, position, records, gets, next, idle_count, notified, handles, conns, approved, first_idle, record_of, get_of, with_record, Row, begins, waits_on, serves, takes_out, waits, check_fails, gives_up, gives_up_kept, gives_up_closed, keeps, returns_closed, detaches, evicts, opens, adds, IsLegal, fits, and_right, standing_is, Guarded, Allowed, nat_tests}
 use Rattle.bb8_ledger.specs.Ledger.{numbered_get}
 use Rattle.bb8_ledger.specs.Limits.{WaitsSince}
 use Rattle.bb8_ledger.specs.Answers as answers
@@ -55,18 +55,11 @@ told_stands first m g gs is =
 told_is : (first m : ℕ) (n : Option ℕ) (gs : List (Numbered Getting)) (g : ℕ) → n ≡ slice_get (in_order unnotified_at first gs m) 0 → n ≡ Some g
     → gets_stand is_notified (standing_at first (with_notice first n gs) g) ≡ true
 told_is first m None gs g is told = cc
-told_is first m (Some h) gs g is told =
-    let same : g ≡ h = cc in
-    subst (λ (q : ℕ). gets_stand is_notified (standing_at first (with_notice first (Some h) gs) q) ≡ true) (sym same) (told_stands first m h gs (sym is))
+told_is first m (Some h) gs g is told = grind (arith, nat_tests, told_stands first m h gs (sym is))
 
 -- who is notified may try
 notified_tries : (o : Option Getting) → gets_stand is_notified o ≡ true → gets_stand is_trying o ≡ true
-notified_tries None on = cc
-notified_tries (Some s) on = each s.place on
-  where
-    each : (p : GetPlace) → is_notified p ≡ true → is_trying p ≡ true
-    each (Holding k) on = cc
-    each _ on = refl
+notified_tries o on = grind (arith, nat_tests)
 
 module _ {C : Type 0} where
   -- ---- which connection became idle
@@ -95,17 +88,12 @@ module _ {C : Type 0} where
       turned_idle l k j _ c _ (returns_turn l at k c f) (let same : k ≡ j = cc in same)
   row_brought l at _ _ j legal f (opens {k} {c} in_time is) brought =
       turned_idle l k j _ c _ (opens_turn l at k c f) (let same : k ≡ j = cc in same)
-  row_brought l at _ _ j legal f (adds {k} {c} room few is who) brought =
-      let same : k ≡ j = cc in
-      let new : Numbered (Standing C) = entry c (max (latest l) at) (max (latest l) at) (position l) in
-      ap idles_at (numbered.at-append (records l) new (start l).first j)
-      ∙ ap (λ (b : Bool). idles_at (cond b (Some new) (at_number (start l).first (records l) j))) (eq-eqb j (next l) (sym same ∙ is))
+  row_brought l at _ _ j legal f (adds {k} {c} room few is who) brought = grind (arith, nat_tests, numbered.at-append (records l), eq-eqb j (next l))
   row_brought l at _ _ j legal f _ brought = cc
 
   -- what an event of the table shows then
   row_shows : (l : Ledger C) (at : ℕ) (e : Act C) (a : Answer) → Row l at e a → (just_notified (Later l at e a) ≡ notified_by a) × (just_brought (Later l at e a) ≡ brought_by a)
-  row_shows l at _ _ (begins is few) = (refl, refl)
-  row_shows l at _ _ _ = (refl, refl)
+  row_shows l at e a z = grind (arith, nat_tests)
 
   all_brought : (l : Ledger C) → IsLegal l → (k : ℕ) → just_brought l ≡ Some k → stands is_idle (record_of l k) ≡ true
   all_brought = each_legal (λ l. (k : ℕ) → just_brought l ≡ Some k → stands is_idle (record_of l k) ≡ true) (λ s lawful k brought. cc) (λ l at e before. before)
@@ -120,10 +108,7 @@ module _ {C : Type 0} where
 
   -- a record that is idle
   idle_found : (l : Ledger C) (k : ℕ) → stands is_idle (record_of l k) ≡ true → (x : Numbered (Standing C)) × (at_number (start l).first (records l) k ≡ Some x) × (stands is_idle x.standing ≡ true)
-  idle_found l k on =
-      let s = standing_is is_idle (record_of l k) on in
-      let m = numbered.standing_found (records l) (start l).first k s.0 s.1 in
-      (m.0, m.1, ap (stands is_idle) (m.2 ∙ sym s.1) ∙ on)
+  idle_found l k on = grind (arith, nat_tests, standing_is, numbered.standing_found)
 
   some_idle : (l : Ledger C) (k : ℕ) → first_idle l ≡ Some k → 0 < idle_count l
   some_idle l k first = let x = goes_out l k first in some_tally (λ (r : Numbered (Standing C)). stands is_idle r.standing) (records l) (start l).first k x.0 x.1 x.2
@@ -140,10 +125,7 @@ module _ {C : Type 0} where
 
   -- a get that passes a test, with its position
   found : (test : GetPlace → Bool) (l : Ledger C) (g : ℕ) → gets_stand test (get_of l g) ≡ true → (x : Numbered Getting) × (numbered_get l g ≡ Some x) × (gets_stand test x.standing ≡ true)
-  found test l g on =
-      let st = getting_is test (get_of l g) on in
-      let m = getting l g st.0 st.1 in
-      (m.0, m.1, ap (gets_stand test) m.2 ∙ st.2)
+  found test l g on = grind (arith, nat_tests, getting_is test (get_of l g) on, getting l g)
 
   some_notified : (l : Ledger C) → 0 < notified l → (g : ℕ) × (x : Numbered Getting) × (numbered_get l g ≡ Some x) × (gets_stand is_notified x.standing ≡ true)
   some_notified l some = go (numbers (λ (x : Numbered Getting). gets_stand is_notified x.standing) (start l).first_get (gets l)) refl
@@ -196,20 +178,11 @@ module _ {C : Type 0} where
 
   -- a try is due where a connection is idle
   due_is : (l : Ledger C) (g : ℕ) → due_try l ≡ Some g → (0 < idle_count l) × (oldest_notified l ≡ Some g)
-  due_is l g is = elim (numbered.same_or_not (idle_count l) 0) [
-    | inl t ↦ absurd (let clash : None ≡ Some g = sym (ap (λ (b : Bool). cond b None (oldest_notified l)) t.0) ∙ is in cc)
-    | inr t ↦ (omega (arith, t.1), sym (ap (λ (b : Bool). cond b None (oldest_notified l)) t.0) ∙ is)
-  ]
+  due_is l g is = grind (arith, nat_tests, numbered.same_or_not (idle_count l) 0)
 
   -- where none is, nobody waits or nothing is idle
   none_due : (l : Ledger C) → IsLegal l → due_try l ≡ None → min (waiters l) (idle_count l) ≡ 0
-  none_due l legal none = elim (numbered.same_or_not (idle_count l) 0) [
-    | inl t ↦ omega (arith, t.1)
-    | inr t ↦
-        let nobody : oldest_notified l ≡ None = sym (ap (λ (b : Bool). cond b None (oldest_notified l)) t.0) ∙ none in
-        let untold_all : 0 < notified l → ⊥ = λ some. (let o = oldest_is l legal some in let clash : None ≡ Some o.0 = sym nobody ∙ o.1 in cc) in
-        omega (arith, (all_serve l legal).served, untold_all)
-  ]
+  none_due l legal none = grind (arith, nat_tests, numbered.same_or_not (idle_count l) 0, oldest_is l legal, all_serve l legal)
 
   -- of gets, for the event of one
   abbrev IsOf : Option ℕ → Act C → Type 0
@@ -234,17 +207,7 @@ module _ {C : Type 0} where
     pub provided : Provides l
 
   row_handed : (l : Ledger C) (at : ℕ) (e : Act C) (a : Answer) → IsLegal l → fits l e ≡ true → Row l at e a → IsMet l e → IsHanded l → IsHanded (Later l at e a)
-  row_handed l at e a legal f row m i =
-      let s = row_sums l at e a legal f row in
-      record {
-        settled = omega (
-          arith,
-          s.settles m (omega (arith, i.settled, one_few (is_some (just_brought l)))),
-          ap (λ (o : Option ℕ). one (is_some o)) (row_shows l at e a row).1,
-        );
-        few = s.loses m i.few;
-        provided = s.provides m i.provided;
-      }
+  row_handed l at e a legal f row m i = grind (arith, nat_tests, row_sums l, one_few (is_some (just_brought l)), row_shows l)
 
   abbrev IfHanded : (Ledger C → Type 0) → Ledger C → Type 0
   IfHanded P l = HandsOver l → P l
@@ -264,10 +227,7 @@ module _ {C : Type 0} where
 
   -- who waits is counted
   counted : (l : Ledger C) (h q : ℕ) → WaitsSince l h q → 0 < waiters l
-  counted l h q w = elim w.3 [
-    | inl on ↦ omega (arith, some_tally (λ (x : Numbered Getting). gets_stand is_notified x.standing) (gets l) (start l).first_get h w.0 w.1 on)
-    | inr on ↦ omega (arith, some_tally (λ (x : Numbered Getting). gets_stand is_unnotified x.standing) (gets l) (start l).first_get h w.0 w.1 on)
-  ]
+  counted l h q w = grind (arith, nat_tests, some_tally)
 
   -- where a connection is idle, only the first of those who wait may try
   first_tries : (l : Ledger C) (g : ℕ) → IsLegal l → IsOf (due_try l) (Try g) → 0 < idle_count l → IsFirst l g
@@ -290,14 +250,7 @@ module _ {C : Type 0} where
   row_in_turn l at e _ legal f _ i h = tt
 
   always_in_turn : (l : Ledger C) → IsLegal l → IfHanded AlwaysInTurn l
-  always_in_turn = each_legal (IfHanded AlwaysInTurn) (λ s lawful h. tt) (λ l at e before h. (before h, unfit_in_turn l e))
-      (λ l at e a legal f row before h.
-      let t = fitted l at e a row h in
-      (before t.0, row_in_turn l at e a legal f row (all_handed l legal t.0) t.1))
-    where
-      unfit_in_turn : (l : Ledger C) (e : Act C) → TriesInTurn l e Unfit
-      unfit_in_turn l (Try g) = tt
-      unfit_in_turn l _ = tt
+  always_in_turn = grind (arith, nat_tests, each_legal (IfHanded AlwaysInTurn), fitted, row_in_turn, all_handed)
 
   -- ---- the order of those that go out
 
@@ -378,9 +331,7 @@ module _ {C : Type 0} where
 
   -- a notified get is counted
   notified_counted : (l : Ledger C) (g : ℕ) → gets_stand is_notified (get_of l g) ≡ true → 0 < notified l
-  notified_counted l g on =
-      let m = found is_notified l g on in
-      some_tally (λ (x : Numbered Getting). gets_stand is_notified x.standing) (gets l) (start l).first_get g m.0 m.1 m.2
+  notified_counted l g on = grind (arith, nat_tests, found is_notified l g on, some_tally)
 
   -- a try is due where a connection is idle and some get is notified
   due_one : (l : Ledger C) → IsLegal l → min 1 (min (notified l) (idle_count l)) ≡ one (is_some (due_try l))
@@ -431,8 +382,7 @@ module _ {C : Type 0} where
     where
       pick : (b : Bool) → n ≡ cond b (slice_get (in_order unnotified_at (start l).first_get (update (start l).first_get q after_end (gets l)) (position l)) 0) None
           → gets_stand is_notified (standing_at (start l).first_get (with_notice (start l).first_get n (update (start l).first_get q after_end (gets l))) g) ≡ true
-      pick true own = told_is (start l).first_get (position l) n (update (start l).first_get q after_end (gets l)) g own told
-      pick false own = absurd (let clash : None ≡ Some g = sym own ∙ told in cc)
+      pick b own = grind (arith, nat_tests, told_is)
   row_told l at _ _ g f (gives_up_kept {g = q} {k} {n = n} holds_it keep is) told =
       let t = (holder_ends l q k holds_it).0 in
       told_is (start l).first_get (position l) n (left_gets t) g (left_oldest t n is) told
@@ -487,10 +437,7 @@ module _ {C : Type 0} where
 
   -- an ask that finds nobody notified misses what was lost
   none_missed_then : (l : Ledger C) (at : ℕ) (e : Act C) (a : Answer) → Row l at e a → missed l ≡ lost l → notified l ≤ notified_in l e → missed (Later l at e a) ≡ lost (Later l at e a)
-  none_missed_then l at _ _ (asks_for {grant} asked) same few =
-      let none : notified l ≡ 0 = omega (arith, few) in
-      ap (λ (n : ℕ). cond (eqb n 0) grant.withheld (missed l)) none
-  none_missed_then l at _ _ _ same few = omega (arith, same)
+  none_missed_then l at e a z same few = grind (arith, nat_tests)
 
   row_at_once : (l : Ledger C) (at : ℕ) (e : Act C) (a : Answer) → IsLegal l → fits l e ≡ true → Row l at e a → IsOf (just_notified l) e → IsAtOnce l → IsAtOnce (Later l at e a)
   row_at_once l at e a legal f row own i =
@@ -505,16 +452,14 @@ module _ {C : Type 0} where
       }
     where
       both : (l : Ledger C) (at : ℕ) (e : Act C) (a : Answer) → Row l at e a → HandsOver l → IsOf (due_try l) e → HandsOver (Later l at e a)
-      both l at e _ (begins is few) over due = (over, due)
-      both l at e _ _ over due = (over, due)
+      both l at e a z over due = grind (arith, nat_tests)
 
       told_now : (o : Option ℕ) → notified_by a ≡ o → one (is_some (notified_by a)) ≤ notified (Later l at e a)
       told_now None is = omega (arith, ap (λ (o : Option ℕ). one (is_some o)) is)
       told_now (Some g) is = omega (arith, notified_counted (Later l at e a) g (row_told l at e a g f row is), one_few (is_some (notified_by a)))
 
   fitted_told : (l : Ledger C) (at : ℕ) (e : Act C) (a : Answer) → Row l at e a → TriesWhenNotified (Later l at e a) → TriesWhenNotified l × IsOf (just_notified l) e
-  fitted_told l at e _ (begins is few) h = h
-  fitted_told l at e _ _ h = h
+  fitted_told l at e a z h = grind (arith, nat_tests)
 
   all_at_once : (l : Ledger C) → IsLegal l → TriesWhenNotified l → IsAtOnce l
   all_at_once = each_legal (λ l. TriesWhenNotified l → IsAtOnce l)
@@ -524,55 +469,31 @@ module _ {C : Type 0} where
 
   -- waiters are served in order, if the history has hand-off
   pub keeps_order : (l : Ledger C) → IsLegal l → IsOrderly l
-  keeps_order l legal = record {
-    handed = hands_in_order l legal;
-    at_once = λ h.
-        let i = all_at_once l legal h in
-        record {
-          hands_over = i.over;
-          few = i.few;
-          told = told (just_notified l) refl;
-          asked = λ none. omega (arith, i.asked, ap (λ (o : Option ℕ). one (is_some o)) none);
-          none_missed = i.none_missed;
-        };
-  }
-    where
-      told : (o : Option ℕ) → just_notified l ≡ o → IfSome o (λ g. gets_stand is_notified (get_of l g) ≡ true)
-      told None is = tt
-      told (Some g) is = all_told l legal g is
+  keeps_order l legal = grind (arith, nat_tests, hands_in_order l legal, all_at_once l legal, all_told l legal)
 
   -- ---- an event that notifies a get, and at once the try of that get
 
   goes_with : (l : Ledger C) (at g : ℕ) (o : Option ℕ) (b : Answer) → idle_count l ≤ one (is_some o) → ((k : ℕ) → o ≡ Some k → stands is_idle (record_of l k) ≡ true)
       → gets_stand is_notified (get_of l g) ≡ true → Row l at (Try g) b → GoesWith o b × (notified_by b ≡ None)
-  goes_with l at g o _ few on told (serves {k = j} {grant = grant} not_waiting off first want) =
-      (subst (λ (t : Option ℕ). GoesWith t (Served j grant)) (sym (that_one l j o first few on)) refl, refl)
-  goes_with l at g o _ few on told (takes_out {k = j} {grant = grant} not_waiting check first want) =
-      (subst (λ (t : Option ℕ). GoesWith t (Taken j grant)) (sym (that_one l j o first few on)) refl, refl)
+  goes_with l at g o _ few on told (serves {k = j} {grant = grant} not_waiting off first want) = grind (arith, nat_tests, that_one l j o first few on)
+  goes_with l at g o _ few on told (takes_out {k = j} {grant = grant} not_waiting check first want) = grind (arith, nat_tests, that_one l j o first few on)
   goes_with l at g o _ few on told (waits_on {grant = grant} now nothing) = absurd (let clash : false ≡ true = sym (untold (get_of l g) now) ∙ told in cc)
   goes_with l at g o _ few on told (waits {grant = grant} not_waiting none granted) = (go o on, refl)
     where
       go : (o : Option ℕ) → ((k : ℕ) → o ≡ Some k → stands is_idle (record_of l k) ≡ true) → GoesWith o (answers.Waiting grant)
       go None on = tt
-      go (Some k) on =
-          let y = idle_found l k (on k refl) in
-          absurd (omega (arith, idle_none l none, some_tally (λ (r : Numbered (Standing C)). stands is_idle r.standing) (records l) (start l).first k y.0 y.1 y.2))
+      go (Some k) on = grind (arith, nat_tests, idle_found l k, idle_none l none, some_tally)
 
   -- an event goes on with a prompt history, and says itself who is to try
   told_fitted : (l : Ledger C) (at : ℕ) (e : Act C) (a : Answer) → Row l at e a → TriesWhenNotified l → IsOf (just_notified l) e → TriesWhenNotified (Later l at e a)
-  told_fitted l at e _ (begins is few) h o = (h, o)
-  told_fitted l at e _ _ h o = (h, o)
+  told_fitted l at e a z h o = grind (arith, nat_tests)
 
   prompt_row : (l : Ledger C) (at : ℕ) (e : Act C) (a : Answer) → Row l at e a → IsPrompt l → TriesWhenNotified (Later l at e a) × (just_notified (Later l at e a) ≡ notified_by a)
   prompt_row l at e a row p = (told_fitted l at e a row p.0 (subst (λ (o : Option ℕ). IsOf o e) (sym p.1) tt), (row_shows l at e a row).0)
 
   -- where it notified nobody, the history is prompt still
   pub prompt_then : (l : Ledger C) (at : ℕ) (e : Act C) (a : Answer) → Allowed l at e a → notified_by a ≡ None → IsPrompt l → IsPrompt (Later l at e a)
-  prompt_then l at e a allowed none p = go (fits l e) allowed
-    where
-      go : (b : Bool) → MatchBool b (Row l at e a) (a ≡ Unfit) → IsPrompt (Later l at e a)
-      go true row = let r = prompt_row l at e a row p in (r.0, r.1 ∙ none)
-      go false is = subst (λ (x : Answer). IsPrompt (Later l at e x)) (sym is) p
+  prompt_then l at e a allowed none p = grind (arith, nat_tests, prompt_row l)
 
   tells_nobody : (l : Ledger C) (at g : ℕ) (b : Answer) → Row l at (Try g) b → notified_by b ≡ None
   tells_nobody l at g _ (waits_on on nothing) = refl
@@ -581,12 +502,7 @@ module _ {C : Type 0} where
   -- and where it notified a get, it is with the try of that get
   pub prompt_tried : (l : Ledger C) (at then g : ℕ) (e : Act C) (a b : Answer) → Row l at e a → notified_by a ≡ Some g → Row (Later l at e a) then (Try g) b
       → IsPrompt l → IsPrompt (Later (Later l at e a) then (Try g) b)
-  prompt_tried l at then g e a b row told tries p =
-      let r = prompt_row l at e a row p in
-      let later : Ledger C = Later l at e a in (
-        told_fitted later then (Try g) b tries r.0 (subst (λ (o : Option ℕ). IsOf o (Try g)) (sym (r.1 ∙ told)) refl),
-        (row_shows later then (Try g) b tries).0 ∙ tells_nobody later then g b tries,
-      )
+  prompt_tried l at then g e a b row told tries p = grind (arith, nat_tests, prompt_row l, told_fitted, row_shows, tells_nobody)
 
   -- Where nobody was notified before, a get that an event notifies, and that tries at once, goes
   -- out with the connection that the event brought, or waits anew where it brought none; and nobody

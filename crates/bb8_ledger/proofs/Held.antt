@@ -1,6 +1,6 @@
 -- Who holds what: what a get holds is out in its hands and its last fitting try took it, and what
 -- is checked out is with a guard.
-use Rattle.bb8_ledger.proofs.Words.{◌≡◌, ℕ, max, Bool, true, false, cond, not, eqb, ◌&&◌, ◌||◌, Option, Some, None, is_some, List, map, option_map, refl, sym, ap, ◌∙◌, subst, Grant, Place, Idle, Held, Guarded, Standing, Holder, Guard, Get, Active, Act, Try, PutBack, Detach, Evict, Leave, Answer, Served, Taken, Kept, Closed, Left, Numbered, update, after_end, after_end_where, Ledger, Later, start, position, latest, handles, records, gets, record_of, get_of, at_place, entry, at_entry, with_approvals, get_at_place, at_wait, with_notice, oldest_waiter, holds, stands, gets_stand, is_held_by, is_left, is_trying, is_notified, Row, begins, waits_on, serves, takes_out, waits, checks, check_fails, gives_up, gives_up_kept, gives_up_closed, keeps, returns_closed, detaches, evicts, fills, asks_for, claims, opens, opens_late, fails, adds, reaps, retires, leaves, shuts, IsLegal, fits, agree, and_right, HasTaken, last_try, ServesChecked, NeverServesUnchecked, is_lent, ServesUnlent, NeverServesTwice, IfSome, get_in}
+use Rattle.bb8_ledger.proofs.Words.{arith, nat_tests, ◌≡◌, ℕ, max, Bool, true, false, cond, not, eqb, ◌&&◌, ◌||◌, Option, Some, None, is_some, List, option_map, refl, sym, ap, ◌∙◌, subst, Grant, Idle, Held, Guarded, Standing, Holder, Guard, Get, Active, Act, Try, PutBack, Detach, Evict, Leave, Answer, Served, Taken, Kept, Closed, Left, Numbered, update, after_end, Ledger, Later, start, position, latest, records, gets, record_of, get_of, at_place, entry, at_entry, with_approvals, get_at_place, at_wait, with_notice, oldest_waiter, holds, stands, gets_stand, is_held_by, is_trying, is_notified, Row, begins, waits_on, serves, takes_out, waits, checks, check_fails, gives_up, gives_up_kept, gives_up_closed, keeps, returns_closed, detaches, evicts, fills, asks_for, claims, opens, opens_late, fails, adds, reaps, retires, leaves, shuts, IsLegal, fits, agree, and_right, HasTaken, last_try, ServesChecked, NeverServesUnchecked, is_lent, ServesUnlent, NeverServesTwice, IfSome, get_in}
 use Rattle.bb8_types.proofs.Numbered as numbered
 use Rattle.bb8_ledger.proofs.Waiters.{getting_is}
 use Rattle.bb8_ledger.proofs.Effects.{each_legal, place_of, Turns, to_place, returns_turn, closes_turn, evicts_turn, opens_turn, ends_turn, held_turns, idle_turns, unclaimed_turns, holder_in, holder_at, holder, turned_holder, turned_from, kept_holder, appended_same, granted_holder, reaped_holder, retired_holder, left_holder}
@@ -12,8 +12,7 @@ is_it k None = false
 is_it k (Some j) = eqb k j
 
 it_is : (k : ℕ) (o : Option ℕ) → is_it k o ≡ true → o ≡ Some k
-it_is k None e = cc
-it_is k (Some j) e = ap (λ (i : ℕ). Some i) (sym (numbered.tested k j e))
+it_is k o e = grind (arith, nat_tests)
 
 if_it : (P : ℕ → Type 0) (o : Option ℕ) → IfSome o P → (k : ℕ) → is_it k o ≡ true → P k
 if_it P None h k e = cc
@@ -46,12 +45,10 @@ taken_in _ = None
 
 -- one more is checked out, or one less, or the same
 one_more : (b : Bool) (y : Option Holder) (x : Bool) → has_guard y ≡ x → has_guard (cond b (Some Guard) y) ≡ (b || x)
-one_more true y x e = refl
-one_more false y x e = e
+one_more b y x e = grind (arith, nat_tests)
 
 one_less : (b : Bool) (y : Option Holder) (x : Bool) → has_guard y ≡ x → has_guard (cond b None y) ≡ (not b && x)
-one_less true y x e = refl
-one_less false y x e = e
+one_less b y x e = grind (arith, nat_tests)
 
 as_many : (b : Bool) (to from y : Option Holder) → (b ≡ true → y ≡ from) → has_guard from ≡ has_guard to → has_guard (cond b to y) ≡ has_guard y
 as_many true to from y is same = sym same ∙ sym (ap has_guard (is refl))
@@ -66,8 +63,7 @@ tried false a o last k h e = h e
 
 -- or it holds nothing
 not_it : (b : Bool) (o : Option ℕ) (k : ℕ) → cond b None o ≡ Some k → o ≡ Some k
-not_it true o k e = cc
-not_it false o k e = e
+not_it b o k e = grind (arith, nat_tests)
 
 module _ {C : Type 0} where
   -- what the get of an event held
@@ -109,11 +105,7 @@ module _ {C : Type 0} where
 
   held_by : (g : ℕ) (o : Option (Standing C)) → stands (is_held_by g) o ≡ has_get g (holder_in (place_of o))
   held_by g None = refl
-  held_by g (Some s) = go s.place
-    where
-      go : (p : Place C) → is_held_by g p ≡ has_get g (holder_in (Some p))
-      go (Held h) = refl
-      go _ = refl
+  held_by g (Some s) = grind (arith, nat_tests)
 
   -- the connection of a get that holds it is out in its hands
   in_hand : (l : Ledger C) (g k : ℕ) → AllHold l → holds (get_of l g) ≡ Some k → stands (is_held_by g) (record_of l k) ≡ true
@@ -121,19 +113,11 @@ module _ {C : Type 0} where
 
   -- a get that gives up and hands nothing in holds nothing
   free_quiet : (l : Ledger C) (g : ℕ) → (is_some (get_of l g) && agree false (is_some (holds (get_of l g)))) ≡ true → holds (get_of l g) ≡ None
-  free_quiet l g f = go (holds (get_of l g)) (and_right (is_some (get_of l g)) _ f).1
-    where
-      go : (o : Option ℕ) → agree false (is_some o) ≡ true → o ≡ None
-      go None e = refl
-      go (Some k) e = cc
+  free_quiet l g f = grind (arith, nat_tests, and_right (is_some (get_of l g)))
 
   -- to whom it hands its notification on holds nothing
   handed_quiet : (l : Ledger C) (n : Option ℕ) (g : ℕ) → n ≡ cond (gets_stand is_notified (get_of l g)) (oldest_waiter l) None → (m : ℕ) → n ≡ Some m → holds (get_of l m) ≡ None
-  handed_quiet l n g is m e = pick (gets_stand is_notified (get_of l g)) (sym is ∙ e)
-    where
-      pick : (b : Bool) → cond b (oldest_waiter l) None ≡ Some m → holds (get_of l m) ≡ None
-      pick true to = oldest_quiet l (oldest_waiter l) refl m to
-      pick false to = cc
+  handed_quiet l n g is m e = grind (arith, nat_tests, oldest_quiet l (oldest_waiter l))
 
   -- a get ends, and another is notified; the oldest waiter is notified
   ended : (l : Ledger C) (q : ℕ) (n : Option ℕ) → ((m : ℕ) → n ≡ Some m → holds (get_of l m) ≡ None) → (g : ℕ)
@@ -153,11 +137,7 @@ module _ {C : Type 0} where
 
   -- a handle leaves
   left : (l : Ledger C) (at n k : ℕ) → holder_of (Later l at Leave (Left n)) k ≡ holder_of l k
-  left l at n k = pick (eqb (handles l) 1)
-    where
-      pick : (b : Bool) → holder_at (start l).first (cond b (map (after_end_where is_left) (records l)) (records l)) k ≡ holder_of l k
-      pick true = left_holder (start l).first k (records l)
-      pick false = refl
+  left l at n k = grind (arith, nat_tests, left_holder)
 
   row_hands : (l : Ledger C) (at : ℕ) (e : Act C) (a : Answer) → AllHold l → fits l e ≡ true → Row l at e a → Hands l at e a
   row_hands l at _ _ h f (begins is few) = record { gets = begun_holds (start l).first_get (gets l); had = tt; conns = λ k. refl; from = tt }
@@ -215,10 +195,8 @@ module _ {C : Type 0} where
   row_hands l at _ _ h f (fails {k = j}) = record { gets = λ g. refl; had = tt; conns = λ k. kept_holder k (ends_turn l j f) refl refl; from = tt }
   row_hands l at _ _ h f (adds {c} {n} room few is who) =
       record { gets = told l n who; had = tt; conns = λ k. appended_same holder (records l) (start l).first k (entry c (max (latest l) at) (max (latest l) at) (position l)) refl; from = tt }
-  row_hands l at _ _ h f (reaps {grant} open_now closed_is by_idle_is by_life_is want) =
-      record { gets = λ g. refl; had = tt; conns = λ k. granted l false grant.count _ k ∙ reaped_holder l at k; from = tt }
-  row_hands l at _ _ h f (retires {grant} open_now closed_is want) =
-      record { gets = λ g. refl; had = tt; conns = λ k. granted l false grant.count _ k ∙ retired_holder l at k; from = tt }
+  row_hands l at _ _ h f (reaps {grant} open_now closed_is by_idle_is by_life_is want) = grind (arith, nat_tests, granted l false grant.count, reaped_holder l)
+  row_hands l at _ _ h f (retires {grant} open_now closed_is want) = grind (arith, nat_tests, granted l false grant.count, retired_holder l)
   row_hands l at _ _ h f (leaves {n} is) = record { gets = λ g. refl; had = tt; conns = left l at n; from = tt }
   row_hands l at _ _ h f (shuts {n} is) = record { gets = λ g. refl; had = tt; conns = λ k. left_holder (start l).first k (records l); from = tt }
   row_hands l at _ _ h f _ = record { gets = λ g. refl; had = tt; conns = λ k. refl; from = tt }
@@ -233,27 +211,10 @@ module _ {C : Type 0} where
     pub same : (g k : ℕ) → is_it g (get_in e) ≡ true → is_it k (named a) ≡ true → is_it k (taken_in a) ≡ has_get g (goes_to e a)
 
   matched : {l : Ledger C} {at : ℕ} {e : Act C} {a : Answer} → Row l at e a → IsMatched e a
-  matched (takes_out anew on first want) = record { other_conn = λ k off. off; other_get = λ g off. sym off; same = λ g k a b. b ∙ sym a }
-  matched (checks holds_it nothing) = record { other_conn = λ k off. sym off; other_get = λ g off. off; same = λ g k a b. refl }
-  matched (gives_up is) = record { other_conn = λ k off. refl; other_get = λ g off. off; same = λ g k a b. refl }
-  matched (check_fails holds_it want is) = record { other_conn = λ k off. sym off; other_get = λ g off. off; same = λ g k a b. refl }
-  matched (gives_up_kept holds_it keep is) = record { other_conn = λ k off. sym off; other_get = λ g off. off; same = λ g k a b. refl }
-  matched (gives_up_closed holds_it shut want is) = record { other_conn = λ k off. sym off; other_get = λ g off. off; same = λ g k a b. refl }
-  matched _ = record { other_conn = λ k off. refl; other_get = λ g off. refl; same = λ g k a b. refl }
+  matched v = grind (arith, nat_tests)
 
   row_hold : (l : Ledger C) (at : ℕ) (e : Act C) (a : Answer) → AllHold l → Hands l at e a → IsMatched e a → AllHold (Later l at e a)
-  row_hold l at e a h x m g k = ap (is_it k) (x.gets g)
-      ∙ pick (is_it g (get_in e)) (is_it k (named a)) (if_it _ (get_in e) x.had g) (if_it _ (named a) x.from k) (m.other_conn k) (m.other_get g) (m.same g k)
-      ∙ sym (ap (has_get g) (x.conns k))
-    where
-      pick : (b d : Bool) → (b ≡ true → holds (get_of l g) ≡ held_before e a) → (d ≡ true → holder_of l k ≡ comes_from e)
-          → (d ≡ false → is_it k (taken_in a) ≡ is_it k (held_before e a)) → (b ≡ false → has_get g (comes_from e) ≡ has_get g (goes_to e a))
-          → (b ≡ true → d ≡ true → is_it k (taken_in a) ≡ has_get g (goes_to e a))
-          → is_it k (cond b (taken_in a) (holds (get_of l g))) ≡ has_get g (cond d (goes_to e a) (holder_of l k))
-      pick true true had from conn get same = same refl refl
-      pick true false had from conn get same = conn refl ∙ sym (ap (is_it k) (had refl)) ∙ h g k
-      pick false true had from conn get same = h g k ∙ ap (has_get g) (from refl) ∙ get refl
-      pick false false had from conn get same = h g k
+  row_hold l at e a h x m g k = grind (arith, nat_tests, if_it)
 
   -- so it is in every legal ledger
   all_hold : (l : Ledger C) → IsLegal l → AllHold l
@@ -276,13 +237,7 @@ module _ {C : Type 0} where
   IsLentRight l = (k : ℕ) → has_guard (holder_of l k) ≡ is_lent l k
 
   row_lent : (l : Ledger C) (at : ℕ) (e : Act C) (a : Answer) → Row l at e a → Hands l at e a → IsLentRight l → IsLentRight (Later l at e a)
-  row_lent l at _ _ (serves {k = m} anew off first want) x h = λ k. ap has_guard (x.conns k) ∙ one_more (eqb k m) _ _ (h k)
-  row_lent l at _ _ (checks {k = m} holds_it nothing) x h = λ k. ap has_guard (x.conns k) ∙ one_more (eqb k m) _ _ (h k)
-  row_lent l at _ _ (keeps {k = m} keep is) x h = λ k. ap has_guard (x.conns k) ∙ one_less (eqb k m) _ _ (h k)
-  row_lent l at _ _ (returns_closed {k = m} shut want is) x h = λ k. ap has_guard (x.conns k) ∙ one_less (eqb k m) _ _ (h k)
-  row_lent l at _ _ (detaches {k = m} want is) x h = λ k. ap has_guard (x.conns k) ∙ one_less (eqb k m) _ _ (h k)
-  row_lent l at e a row x h = λ k. ap has_guard (x.conns k)
-      ∙ as_many (is_it k (named a)) (goes_to e a) (comes_from e) (holder_of l k) (if_it (λ i. holder_of l i ≡ comes_from e) (named a) x.from k) refl ∙ h k
+  row_lent l at e a row x h = grind (arith, nat_tests)
 
   lent_right : (l : Ledger C) → IsLegal l → IsLentRight l
   lent_right = each_legal IsLentRight (λ s lawful k. refl) (λ l at e h. h) (λ l at e a legal f row h. row_lent l at e a row (hands l at e a legal f row) h)

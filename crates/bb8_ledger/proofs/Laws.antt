@@ -1,5 +1,5 @@
 -- What holds of every legal ledger: the limits, the laws, and the promises to those who wait.
-use Rattle.bb8_ledger.proofs.Words.{Place, stands, one, ◌≡◌, ◌⊎◌, ℕ, suc, ◌+◌, ◌-◌, ◌<◌, ◌≤◌, max, min, true, false, Option, Some, sym, ap, ◌∙◌, inl, inr, arith, subst, is_some, Standing, Getting, is_lawful, Counts, Act, Try, GiveUp, Answer, update, after_end, Ledger, Opening, Later, start, position, latest, retired, records, gets, handles, next, next_get, conns, approved, idle_count, alive, notified, unnotified, oldest_waiter, record_of, get_of, with_notice, counts, is_conn, is_approval, gets_stand, is_unnotified, is_trying, Row, begins, waits_on, serves, takes_out, waits, checks, check_fails, gives_up, gives_up_kept, gives_up_closed, keeps, returns_closed, detaches, evicts, opens, adds, IsLegal, fits, KeepsLimits, KeepsLaws, KeepsPromises, NeverForgets, MayLower, lost, and_right, Claimed, asks_check}
+use Rattle.bb8_ledger.proofs.Words.{Place, stands, one, ◌≡◌, ◌⊎◌, ℕ, suc, ◌+◌, ◌-◌, ◌<◌, ◌≤◌, max, min, true, Option, Some, sym, ap, ◌∙◌, inl, inr, arith, subst, Standing, Getting, is_lawful, Counts, Act, Try, Answer, after_end, Ledger, Opening, Later, start, position, latest, retired, records, gets, handles, next, next_get, conns, approved, idle_count, alive, notified, unnotified, oldest_waiter, record_of, get_of, with_notice, counts, is_conn, is_approval, gets_stand, is_unnotified, is_trying, Row, begins, waits_on, serves, takes_out, waits, checks, check_fails, gives_up, gives_up_kept, gives_up_closed, keeps, returns_closed, detaches, evicts, opens, adds, IsLegal, fits, KeepsLimits, KeepsLaws, KeepsPromises, NeverForgets, MayLower, lost, and_right, Claimed, asks_check, nat_tests}
 use Rattle.bb8_types.proofs.Numbered as numbered
 use Rattle.bb8_ledger.proofs.Facts.{conns_split, waited_before}
 use Rattle.bb8_ledger.proofs.Waiters.{changed_tally, getting_is, alive_counted, InLine, line_later, line_begun, line_begins, line_notified, line_given_up}
@@ -90,15 +90,7 @@ module _ {C : Type 0} where
   -- ---- the laws
 
   pub keeps_laws : (l : Ledger C) → IsLegal l → KeepsLaws l
-  keeps_laws l legal = record {
-    numbers = never_again l legal;
-    returned = never_twice l legal;
-    checked = never_unchecked l legal;
-    replenished = makes_good l legal;
-    reaped = never_reaps_twice l legal;
-    answered = (all_fit l legal).answered;
-    pending = omega (arith, (all_fit l legal).answered);
-  }
+  keeps_laws l legal = grind (arith, nat_tests, never_again l legal, never_twice l legal, never_unchecked l legal, makes_good l legal, never_reaps_twice l legal, all_fit l legal)
 
   -- where `test_after` is 0, as it is where nothing is set, all are to be checked, or none: as the
   -- check is on or off
@@ -125,11 +117,7 @@ module _ {C : Type 0} where
       line_begins (start l).first_get (max (latest l) at) (position l) g (gets l) m.0 st.0 m.1 m.2 (ap (gets_stand is_unnotified) m.2 ∙ st.2) (waited_before l) i
   row_in_line l at _ _ f (checks {g} {k} holds_it nothing) i = left_line (holder_ends l g k holds_it).0 i
   row_in_line l at _ _ f (check_fails {g} {k} {n} holds_it want is) i = left_told_line (holder_turns l g k holds_it).0 n is i
-  row_in_line l at _ _ f (gives_up {g} {n} is) i =
-      let st = alive_get (get_of l g) (and_right (is_some (get_of l g)) _ f).0 in
-      let m = getting l g st.0 st.1 in
-      line_later (start l).first_get (position l) (with_notice (start l).first_get n (update (start l).first_get g after_end (gets l)))
-      (line_given_up (start l).first_get (position l) g n (gets l) m.0 st.0 m.1 m.2 (handed_to l g n st.0 st.1 is) i)
+  row_in_line l at _ _ f (gives_up {g} {n} is) i = grind (arith, nat_tests, alive_get, and_right, getting, line_later, line_given_up, handed_to)
   row_in_line l at _ _ f (gives_up_kept {g} {k} {n} holds_it keep is) i = left_told_line (holder_ends l g k holds_it).0 n is i
   row_in_line l at _ _ f (gives_up_closed {g} {k} {n} holds_it shut want is) i = left_told_line (holder_ends l g k holds_it).0 n is i
   row_in_line l at _ _ f (keeps {n} keep is) i = told_in_line l n is i
@@ -142,18 +130,14 @@ module _ {C : Type 0} where
 
   -- waiters are in the queue
   pub all_in_line : (l : Ledger C) → IsLegal l → AllInLine l
-  all_in_line = each_legal AllInLine
-      (λ s lawful. record { turn = 0; turn_few = omega arith; keeps = λ g a e. cc; apart = λ q. omega arith })
-      (λ l at e i. line_later (start l).first_get (position l) (gets l) i) (λ l at e a legal f row i. row_in_line l at e a f row i)
+  all_in_line = grind (arith, nat_tests, each_legal AllInLine, line_later, row_in_line)
 
   -- an event forgets no notification
   abbrev Remembers : Ledger C → ℕ → Act C → Answer → Type 0
   Remembers l at e a = (notified l ≤ notified (Later l at e a)) ⊎ MayLower e (unnotified (Later l at e a))
 
   remembers : (l : Ledger C) (at : ℕ) (e : Act C) (a : Answer) → Sums l at e a → Remembers l at e a
-  remembers l at (Try g) a s = inr tt
-  remembers l at (GiveUp g why held broken) a s = elim (either_none _ _ s.remembers) [ inl e ↦ inl (omega arith) | inr e ↦ inr e ]
-  remembers l at _ a s = inl (omega arith)
+  remembers l at e a s = grind (arith, nat_tests)
 
   never_forgets : (l : Ledger C) → IsLegal l → NeverForgets l
   never_forgets = each_legal NeverForgets (λ s lawful. tt) (λ l at e before. (before, inl (omega arith))) (λ l at e a legal f row before. (before, remembers l at e a (row_sums l at e a legal f row)))
@@ -163,13 +147,4 @@ module _ {C : Type 0} where
   promised_open l open_now s = omega arith
 
   pub keeps_promises : (l : Ledger C) → IsLegal l → KeepsPromises l
-  keeps_promises l legal = record {
-    promised = λ open_now.
-        elim (either_none (unnotified l - (approved l + lost l)) ((start l).config.max_size - (conns l + approved l) + idle_count l - (notified l + lost l)) (promised_open l open_now (all_serve l legal))) [
-          | inl e ↦ inl (omega arith)
-          | inr e ↦ inr (omega arith)
-        ];
-    remembered = never_forgets l legal;
-    in_turn = (let i = all_in_line l legal in λ g h a b e d told untold. omega (arith, (i.keeps g a e).0 told, (i.keeps h b d).1 untold));
-    kept = always_keeps_places l legal;
-  }
+  keeps_promises l legal = grind (arith, nat_tests, either_none, promised_open, all_serve, never_forgets, all_in_line, always_keeps_places)

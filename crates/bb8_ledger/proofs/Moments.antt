@@ -1,5 +1,5 @@
 -- No birth and no entry lies after the latest moment, and none entered after now.
-use Rattle.bb8_ledger.proofs.Words.{◌≡◌, ℕ, zero, suc, ◌≤◌, max, Bool, true, false, cond, eqb, List, [], ◌∷◌, ◌++◌, map, Option, Some, None, option_map, option_and_then, refl, arith, Place, Idle, Held, Guarded, Standing, Numbered, at, standing_at, update, after_end, after_end_where, is_left, with_place, birth_in, Act, Try, CheckedOk, CheckedErr, GiveUp, PutBack, Detach, Evict, Fill, Ask, Claim, Opened, Failed, Add, Reap, Retire, retiring, Leave, Close, Answer, Served, Taken, Kept, Closed, Granted, Entered, Late, GivenBack, Added, Reaped, Left, Unfit, Ledger, Opening, Later, Start, start, position, latest, handles, records, record_of, records_after, moment_after, reaped, with_ended, with_approvals, approval, at_place, at_entry, entry, is_idle, sym, ◌∙◌, ◌<◌, Unclaimed, Claimed, Waiting}
+use Rattle.bb8_ledger.proofs.Words.{◌≡◌, ℕ, zero, suc, ◌≤◌, max, Bool, true, false, cond, eqb, List, [], ◌∷◌, ◌++◌, map, Option, Some, None, option_map, option_and_then, refl, arith, Place, Idle, Held, Guarded, Standing, Numbered, at, standing_at, update, after_end, after_end_where, is_left, with_place, birth_in, Act, Try, CheckedOk, CheckedErr, GiveUp, PutBack, Detach, Evict, Fill, Ask, Claim, Opened, Failed, Add, Reap, Retire, retiring, Leave, Close, Answer, Served, Taken, Kept, Closed, Granted, Entered, Late, GivenBack, Added, Reaped, Left, Unfit, Ledger, Opening, Later, Start, start, position, latest, records, record_of, records_after, moment_after, reaped, with_ended, with_approvals, at_place, at_entry, entry, is_idle, sym, ◌∙◌, ◌<◌, Claimed, Waiting, nat_tests}
 use Rattle.bb8_ledger.specs.Answers as answers
 
 module _ {C : Type 0} where
@@ -51,11 +51,7 @@ module _ {C : Type 0} where
 
   granted : (m q : ℕ) (claimed : Bool) (n : ℕ) (rs : List (Numbered (Standing C))) → AreUpTo m q rs → AreUpTo m q (with_approvals claimed n rs)
   granted m q claimed zero rs u = u
-  granted m q claimed (suc n) rs u = appended m q (with_approvals claimed n rs) (approval claimed) (granted m q claimed n rs u) (new claimed)
-    where
-      new : (b : Bool) → IsUpTo m q (approval b)
-      new true = stands_up_to m q (record { place = Claimed; birth = 0; entered = 0 }) 0 (omega arith) (omega arith) (λ idle. cc)
-      new false = stands_up_to m q (record { place = Unclaimed; birth = 0; entered = 0 }) 0 (omega arith) (omega arith) (λ idle. cc)
+  granted m q claimed (suc n) rs u = grind (arith, nat_tests, appended, stands_up_to, granted m q claimed n rs u)
 
   placed : (m q : ℕ) (p : Place C) → is_idle p ≡ false → (r : Numbered (Standing C)) → IsUpTo m q r → IsUpTo m q (at_place p r)
   placed m q p off r u = go r.standing u
@@ -93,8 +89,7 @@ module _ {C : Type 0} where
   up_to_after s h q late at rs (Fill claimed) (Granted grant) was u = granted _ _ claimed grant.count rs u
   up_to_after s h q late at rs Ask (Granted grant) was u = granted _ _ false grant.count rs u
   up_to_after s h q late at rs Claim (answers.Claimed (Some k)) was u = updated _ _ s.first k (at_place Claimed) rs (placed _ _ Claimed refl) u
-  up_to_after s h q late at rs (Opened k c) (Entered j n) was u =
-      updated _ _ s.first k (λ r. entry c (max late at) (max late at) q) rs (λ r _. entered_now (max late at) (max late at) q c (omega arith)) u
+  up_to_after s h q late at rs (Opened k c) (Entered j n) was u = grind (arith, nat_tests, updated, entered_now (max late at) (max late at) q c)
   up_to_after s h q late at rs (Opened k c) (Late j) was u = updated _ _ s.first k after_end rs (λ r _. ended _ _ r) u
   up_to_after s h q late at rs (Failed k) GivenBack was u = updated _ _ s.first k after_end rs (λ r _. ended _ _ r) u
   up_to_after s h q late at rs (Add c broken) (Added k n) was u = appended _ _ rs (entry c (max late at) (max late at) q) u (entered_now (max late at) (max late at) q c (omega arith))
@@ -110,10 +105,7 @@ module _ {C : Type 0} where
 
   pub up_to_latest : (l : Ledger C) → AreUpTo (latest l) (position l) (records l)
   up_to_latest (Opening s) = tt
-  up_to_latest (Later l at e a) =
-      let u = up_to_latest l in
-      up_to_after (start l) (handles l) (position l) (latest l) at (records l) e a (raised (latest l) (latest l) (position l) (records l) (omega arith) u)
-      (raised (latest l) (max (latest l) at) (position l) (records l) (omega arith) u)
+  up_to_latest (Later l at e a) = grind (arith, nat_tests, up_to_after, raised, up_to_latest l)
 
   -- no record of a ledger was born or entered after its latest moment
   pub none_later : (l : Ledger C) (k : ℕ) (s : Standing C) → record_of l k ≡ Some s → (s.birth ≤ latest l) × (s.entered ≤ latest l)

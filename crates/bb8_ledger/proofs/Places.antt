@@ -1,5 +1,5 @@
 -- Who waits, and since when: an event leaves each where it was, but for a try that begins a wait.
-use Rattle.bb8_ledger.proofs.Words.{◌≡◌, ◌≢◌, ◌⊎◌, ℕ, ◌+◌, ◌<◌, max, Bool, true, false, cond, eqb, List, [], ◌∷◌, ◌++◌, length, Option, Some, None, is_some, slice_get, option_map, option_and_then, refl, sym, ap, ◌∙◌, arith, subst, inl, inr, GetPlace, Active, Holding, Waiting, Getting, Numbered, at, at_number, update, in_order, after_end, gets_stand, is_unnotified, is_notified, unnotified_at, get_at_place, at_wait, with_notice, Act, Try, Answer, new_get, Ledger, Later, start, position, latest, gets, idle_count, get_of, Row, begins, waits_on, serves, takes_out, waits, checks, check_fails, gives_up, gives_up_kept, gives_up_closed, keeps, returns_closed, detaches, evicts, opens, adds, IsLegal, fits, and_right}
+use Rattle.bb8_ledger.proofs.Words.{◌≡◌, ◌≢◌, ◌⊎◌, ℕ, ◌<◌, max, Bool, true, false, cond, eqb, List, [], ◌∷◌, ◌++◌, Option, Some, None, is_some, slice_get, option_map, option_and_then, refl, sym, ap, ◌∙◌, arith, inl, inr, Active, Getting, Numbered, at, at_number, update, in_order, after_end, gets_stand, is_unnotified, is_notified, unnotified_at, get_at_place, at_wait, with_notice, Act, Try, Answer, new_get, Ledger, Later, start, position, latest, gets, idle_count, get_of, Row, begins, waits_on, serves, takes_out, waits, checks, check_fails, gives_up, gives_up_kept, gives_up_closed, keeps, returns_closed, detaches, evicts, opens, adds, IsLegal, fits, and_right, nat_tests}
 use Rattle.bb8_ledger.specs.Ledger.{numbered_get}
 use Rattle.bb8_ledger.specs.Limits.{WaitsSince, KeepsPlaces, AlwaysKeepsPlaces}
 use Rattle.bb8_types.proofs.Numbered as numbered
@@ -9,25 +9,12 @@ use Rattle.bb8_ledger.proofs.GetEffects.{put_off, getting, alive_get, holder_end
 use Rattle.bb8_ledger.proofs.Sums.{idle_none}
 
 pub waiting_is : (o : Option Getting) → gets_stand is_waiting o ≡ true → (gets_stand is_notified o ≡ true) ⊎ (gets_stand is_unnotified o ≡ true)
-waiting_is None on = cc
-waiting_is (Some s) on = each s.place on
-  where
-    each : (p : GetPlace) → is_waiting p ≡ true → (is_notified p ≡ true) ⊎ (is_unnotified p ≡ true)
-    each (Waiting true) on = inl refl
-    each (Waiting false) on = inr refl
-    each _ on = cc
+waiting_is o on = grind (arith, nat_tests)
 
 pub is_waiting_then : (o : Option Getting) → (gets_stand is_notified o ≡ true) ⊎ (gets_stand is_unnotified o ≡ true) → gets_stand is_waiting o ≡ true
 is_waiting_then None (inl on) = cc
 is_waiting_then None (inr on) = cc
-is_waiting_then (Some s) w = each s.place w
-  where
-    each : (p : GetPlace) → (is_notified p ≡ true) ⊎ (is_unnotified p ≡ true) → is_waiting p ≡ true
-    each (Waiting b) w = refl
-    each Active (inl on) = cc
-    each Active (inr on) = cc
-    each (Holding k) (inl on) = cc
-    each (Holding k) (inr on) = cc
+is_waiting_then (Some s) w = grind (arith, nat_tests)
 
 -- the get waited where it waits now
 abbrev Waited : ℕ → List (Numbered Getting) → ℕ → Numbered Getting → Type 0
@@ -43,44 +30,17 @@ at_other first k g f gs e = at_update gs first k g f ∙ ap (λ (b : Bool). cond
 -- one that is changed to one that does not wait
 pub changed_waited : (first k g : ℕ) (f : Numbered Getting → Numbered Getting) (gs : List (Numbered Getting)) (y : Numbered Getting)
     → ((z : Numbered Getting) → gets_stand is_waiting (f z).standing ≡ false) → at first (update first k f gs) g ≡ Some y → gets_stand is_waiting y.standing ≡ true → (g ≢ k) × (at first gs g ≡ Some y)
-changed_waited first k g f gs y off hy on = elim (numbered.same_or_not g k) [
-  | inl t ↦
-      let is : option_map f (at first gs g) ≡ Some y = sym (at_own first k g f gs t.0) ∙ hy in
-      absurd (pick (at first gs g) is)
-  | inr t ↦ (t.1, sym (at_other first k g f gs t.0) ∙ hy)
-]
-  where
-    pick : (o : Option (Numbered Getting)) → option_map f o ≡ Some y → ⊥
-    pick None e = cc
-    pick (Some x) e =
-        let same : f x ≡ y = cc in
-        let clash : false ≡ true = sym (off x) ∙ ap (λ (z : Numbered Getting). gets_stand is_waiting z.standing) same ∙ on in
-        cc
+changed_waited first k g f gs y off hy on = grind (arith, nat_tests, numbered.same_or_not g k, at_own first k g f gs, at_other first k g f gs)
 
 -- one whose state is known
 told_waited : (first m g : ℕ) (n : Option ℕ) (gs : List (Numbered Getting)) (y : Numbered Getting) → n ≡ slice_get (in_order unnotified_at first gs m) 0
     → at first (with_notice first n gs) g ≡ Some y → gets_stand is_waiting y.standing ≡ true → Waited first gs g y
 told_waited first m g None gs y is hy on = (y, hy, refl, on)
-told_waited first m g (Some h) gs y is hy on = elim (numbered.same_or_not g h) [
-  | inl t ↦
-      let x : (x : Numbered Getting) × (at first gs h ≡ Some x) × (p : ℕ) × (p < m) × (unnotified_at p x ≡ true) = numbered.in_order_member unnotified_at gs first m 0 h (sym is) in
-      let there : at first gs g ≡ Some x.0 = ap (at first gs) t.1 ∙ x.1 in
-      let now : Some (get_at_place (Waiting true) x.0) ≡ Some y = sym (at_own first h g (get_at_place (Waiting true)) gs t.0 ∙ ap (option_map (get_at_place (Waiting true))) there) ∙ hy in
-      let same : get_at_place (Waiting true) x.0 ≡ y = cc in
-      (x.0, there, ap (λ (z : Numbered Getting). z.position) (sym same), is_waiting_then x.0.standing (inr (and_right (gets_stand is_unnotified x.0.standing) _ x.4).0))
-  | inr t ↦ (y, sym (at_other first h g (get_at_place (Waiting true)) gs t.0) ∙ hy, refl, on)
-]
+told_waited first m g (Some h) gs y is hy on = grind (arith, nat_tests, numbered.same_or_not, numbered.in_order_member, at_own, is_waiting_then, and_right, at_other)
 
 -- one that begins does not wait
 begun_waited : (first g : ℕ) (gs : List (Numbered Getting)) (y : Numbered Getting) → at first (gs ++ new_get ∷ []) g ≡ Some y → gets_stand is_waiting y.standing ≡ true → at first gs g ≡ Some y
-begun_waited first g gs y hy on = pick (eqb g (first + length gs)) (sym (numbered.at-append gs new_get first g) ∙ hy)
-  where
-    pick : (b : Bool) → cond b (Some new_get) (at first gs g) ≡ Some y → at first gs g ≡ Some y
-    pick true e =
-        let is : Some new_get ≡ Some y = e in
-        let same : new_get ≡ y = cc in
-        absurd (let clash : false ≡ true = ap (λ (z : Numbered Getting). gets_stand is_waiting z.standing) same ∙ on in cc)
-    pick false e = e
+begun_waited first g gs y hy on = grind (arith, nat_tests, numbered.at-append gs new_get first g)
 
 module _ {C : Type 0} where
   -- the get begins to wait by this event, at which nothing is idle
@@ -91,34 +51,16 @@ module _ {C : Type 0} where
   waits_waited : (l : Ledger C) (at k g : ℕ) (y : Numbered Getting) → gets_stand is_unnotified (get_of l k) ≡ false → idle_count l ≡ 0
       → at_number (start l).first_get (update (start l).first_get k (at_wait (max (latest l) at) (position l)) (gets l)) g ≡ Some y
       → (numbered_get l g ≡ Some y) ⊎ WaitsNow l (Try k) g y.position
-  waits_waited l at k g y off none hy = elim (numbered.same_or_not g k) [
-    | inl t ↦ pick t.1 (numbered_get l g) refl (sym (at_own (start l).first_get k g (at_wait (max (latest l) at) (position l)) (gets l) t.0) ∙ hy)
-    | inr t ↦ inl (sym (at_other (start l).first_get k g (at_wait (max (latest l) at) (position l)) (gets l) t.0) ∙ hy)
-  ]
-    where
-      pick : g ≡ k → (o : Option (Numbered Getting)) → numbered_get l g ≡ o → option_map (at_wait (max (latest l) at) (position l)) o ≡ Some y
-          → (numbered_get l g ≡ Some y) ⊎ WaitsNow l (Try k) g y.position
-      pick own None there e = cc
-      pick own (Some x) there e =
-          let same : at_wait (max (latest l) at) (position l) x ≡ y = cc in
-          let off_g : gets_stand is_unnotified (get_of l g) ≡ false = subst (λ (q : ℕ). gets_stand is_unnotified (get_of l q) ≡ false) (sym own) off in
-          let stands = ap (λ (o : Option (Numbered Getting)). gets_stand is_unnotified (option_and_then (λ (z : Numbered Getting). z.standing) o)) there in
-          let off_x : gets_stand is_unnotified x.standing ≡ false = sym stands ∙ off_g in
-          inr (ap (λ (z : Numbered Getting). z.position) (sym same ∙ begins_now (max (latest l) at) (position l) x off_x), ap Try (sym own), off_g, none)
+  waits_waited l at k g y off none hy = grind (arith, nat_tests, numbered.same_or_not, at_own, at_other, begins_now)
 
   -- who waits after an event waited before it where it waits now, or begins to wait by it
   row_waited : (l : Ledger C) (at : ℕ) (e : Act C) (a : Answer) (g : ℕ) (y : Numbered Getting) → fits l e ≡ true → Row l at e a → numbered_get (Later l at e a) g ≡ Some y
       → gets_stand is_waiting y.standing ≡ true → Waited (start l).first_get (gets l) g y ⊎ WaitsNow l e g y.position
   row_waited l at _ _ g y f (begins is few) hy on = inl (y, begun_waited (start l).first_get g (gets l) y hy on, refl, on)
-  row_waited l at _ _ g y f (waits_on {g = q} now nothing) hy on =
-      inl (y, sym (ap (λ (gs : List (Numbered Getting)). at_number (start l).first_get gs g) (waits_on_gets l at q now)) ∙ hy, refl, on)
-  row_waited l at _ _ g y f (waits {g = q} not_waiting none granted) hy on = elim (waits_waited l at q g y not_waiting (idle_none l none) hy) [
-    | inl before ↦ inl (y, before, refl, on)
-    | inr now ↦ inr now
-  ]
+  row_waited l at _ _ g y f (waits_on {g = q} now nothing) hy on = grind (arith, nat_tests, waits_on_gets l)
+  row_waited l at _ _ g y f (waits {g = q} not_waiting none granted) hy on = grind (arith, nat_tests, waits_waited l, idle_none l none)
   row_waited l at _ _ g y f (serves {g = q} not_waiting off first want) hy on = inl (y, (changed_waited (start l).first_get q g after_end (gets l) y (λ z. refl) hy on).1, refl, on)
-  row_waited l at _ _ g y f (takes_out {g = q} {k} not_waiting now first want) hy on =
-      inl (y, (changed_waited (start l).first_get q g (get_at_place (Holding k)) (gets l) y (put_off (Holding k) refl) hy on).1, refl, on)
+  row_waited l at _ _ g y f (takes_out {g = q} {k} not_waiting now first want) hy on = grind (arith, nat_tests, changed_waited, put_off)
   row_waited l at _ _ g y f (checks {g = q} holds_it nothing) hy on = inl (y, (changed_waited (start l).first_get q g after_end (gets l) y (λ z. refl) hy on).1, refl, on)
   row_waited l at _ _ g y f (check_fails {g = q} {k} {n = n} holds_it want is) hy on =
       let t = (holder_turns l q k holds_it).0 in
@@ -132,8 +74,7 @@ module _ {C : Type 0} where
     where
       pick : (b : Bool) → n ≡ cond b (slice_get (in_order unnotified_at (start l).first_get (update (start l).first_get q after_end (gets l)) (position l)) 0) None
           → Waited (start l).first_get (update (start l).first_get q after_end (gets l)) g y
-      pick true own = told_waited (start l).first_get (position l) g n (update (start l).first_get q after_end (gets l)) y own hy on
-      pick false own = (y, subst (λ (o : Option ℕ). at_number (start l).first_get (with_notice (start l).first_get o (update (start l).first_get q after_end (gets l))) g ≡ Some y) own hy, refl, on)
+      pick b own = grind (arith, nat_tests, told_waited)
   row_waited l at _ _ g y f (gives_up_kept {g = q} {k} {n = n} holds_it keep is) hy on =
       let t = (holder_ends l q k holds_it).0 in
       let x = told_waited (start l).first_get (position l) g n (left_gets t) y (left_oldest t n is) hy on in
@@ -151,17 +92,11 @@ module _ {C : Type 0} where
   row_waited l at _ _ g y f _ hy on = inl (y, hy, refl, on)
 
   pub row_since : (l : Ledger C) (at : ℕ) (e : Act C) (a : Answer) (g p : ℕ) → fits l e ≡ true → Row l at e a → WaitsSince (Later l at e a) g p → WaitsSince l g p ⊎ WaitsNow l e g p
-  row_since l at e a g p f row w = elim (row_waited l at e a g w.0 f row w.1 (is_waiting_then w.0.standing w.3)) [
-    | inl x ↦ inl (x.0, x.1, sym x.2 ∙ w.2, waiting_is x.0.standing x.3)
-    | inr now ↦ inr (sym w.2 ∙ now.0, now.1, now.2, now.3)
-  ]
+  row_since l at e a g p f row w = grind (arith, nat_tests, row_waited l, is_waiting_then w.0.standing w.3, waiting_is)
 
   -- a get waits since one position
   pub one_since : (l : Ledger C) (g p q : ℕ) → WaitsSince l g p → WaitsSince l g q → q ≡ p
-  one_since l g p q v w =
-      let both : Some v.0 ≡ Some w.0 = sym v.1 ∙ w.1 in
-      let same : v.0 ≡ w.0 = cc in
-      sym w.2 ∙ ap (λ (x : Numbered Getting). x.position) (sym same) ∙ v.2
+  one_since l g p q v w = grind (arith, nat_tests)
 
   -- the standing of a get that waits
   pub since_stands : (l : Ledger C) (g p : ℕ) (w : WaitsSince l g p) → get_of l g ≡ w.0.standing

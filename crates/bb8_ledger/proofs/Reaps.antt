@@ -1,5 +1,5 @@
 -- A reap leaves nothing to close or to grant to a second one at the same moment.
-use Rattle.bb8_ledger.proofs.Words.{◌≡◌, ℕ, zero, suc, ◌+◌, ◌-◌, ◌≤◌, max, Bool, true, false, cond, eqb, List, [], ◌∷◌, ◌++◌, length, take, drop, Option, Some, None, refl, sym, ap, ◌∙◌, arith, subst, length-take, length-drop, take-length, drop-length, unwrap_or, Grant, Standing, Settings, Act, Reap, Answer, Reaped, Numbered, update, tally, one, after_end, Ledger, Later, start, position, latest, records, handles, conns_of, approved_of, idle_of, approval, with_approvals, reaped, outlived, idled, over_idle_at, idle_at, with_ended, Start, is_idle, idles_out, lives_out, Row, reaps, reaped_at, IsLegal, lacking, reap_granted, IsMadeGood, ReapsOnce, NeverReapsTwice, Before, and_right}
+use Rattle.bb8_ledger.proofs.Words.{◌≡◌, ℕ, zero, suc, ◌-◌, ◌≤◌, Bool, false, List, [], ◌∷◌, ◌++◌, length, take, drop, Option, Some, None, refl, sym, ap, ◌∙◌, arith, subst, length-take, length-drop, take-length, drop-length, unwrap_or, Grant, Standing, Settings, Act, Answer, Numbered, update, tally, one, after_end, Ledger, Later, start, position, latest, records, idle_of, approval, with_approvals, reaped, outlived, idled, over_idle_at, idle_at, with_ended, Start, is_idle, idles_out, lives_out, Row, reaps, IsLegal, reap_granted, IsMadeGood, ReapsOnce, NeverReapsTwice, Before, and_right, nat_tests}
 use Rattle.bb8_types.proofs.Numbered as numbered
 use Rattle.bb8_ledger.proofs.Facts.{ended_all_before, entered_before}
 use Rattle.bb8_ledger.proofs.Standings.{before-approve}
@@ -17,11 +17,7 @@ module _ {C : Type 0} where
   fewer_ended : (test : Option (Standing C) → Bool) → test None ≡ false → (rs : List (Numbered (Standing C))) (n k : ℕ)
       → tally (λ r. test r.standing) (update n k after_end rs) ≤ tally (λ r. test r.standing) rs
   fewer_ended test off [] n k = omega arith
-  fewer_ended test off (r ∷ rs) n k = omega (arith, fewer_ended test off rs (suc n) k, pick (eqb k n))
-    where
-      pick : (b : Bool) → one (test (cond b (after_end r) r).standing) ≤ one (test r.standing)
-      pick true = omega (arith, ap one off)
-      pick false = omega arith
+  fewer_ended test off (r ∷ rs) n k = grind (arith, nat_tests, fewer_ended test off rs (suc n) k)
 
   fewer_all_ended : (test : Option (Standing C) → Bool) → test None ≡ false → (first : ℕ) (ks : List ℕ) (rs : List (Numbered (Standing C)))
       → tally (λ r. test r.standing) (with_ended first ks rs) ≤ tally (λ r. test r.standing) rs
@@ -42,10 +38,7 @@ module _ {C : Type 0} where
   -- a connection that is idle too long is idle
   over_idle_before : (config : Settings) (now m : ℕ) (rs : List (Numbered (Standing C))) → Before idle_at m rs → Before (over_idle_at config now) m rs
   over_idle_before config now m [] b = tt
-  over_idle_before config now m (r ∷ rs) b = (λ p h. b.0 p (entered p h), over_idle_before config now m rs b.1)
-    where
-      entered : (p : ℕ) → over_idle_at config now p r ≡ true → idle_at p r ≡ true
-      entered p h = let t = and_right (idles_out config now r.standing) _ h in both_hold _ _ (idles_idle config now r.standing t.0) t.1
+  over_idle_before config now m (r ∷ rs) b = grind (arith, nat_tests, over_idle_before config now m rs b.1, and_right (idles_out config now r.standing), both_hold, idles_idle config now r.standing)
 
   -- nothing is there to end at a moment
   pub record NoneDue (s : Start) (m now : ℕ) (rs : List (Numbered (Standing C))) : Type 0 where
@@ -103,15 +96,7 @@ module _ {C : Type 0} where
   IsReaped l = (before : Grant) → reap_granted l ≡ Some before → NoneDue (start l) (position l) (latest l) (records l) × IsMadeGood l before
 
   row_reaped : (l : Ledger C) (at : ℕ) (e : Act C) (a : Answer) → Row l at e a → IsReaped (Later l at e a)
-  row_reaped l at _ _ (reaps {closed} {by_idle} {by_life} {grant} open_now closed_is by_idle_is by_life_is want) = λ before is.
-      let same : grant ≡ before = cc in (
-        none_later (start l) (position l) (max (latest l) at) _
-            (before-approve false grant.count (position l) _ (ended_all_before (position l) (start l).first (reaped_at l at) (records l) (entered_before l)))
-            (reaped_none (start l) (position l) (max (latest l) at) grant.count (records l)),
-        subst (IsMadeGood (Later l at Reap (Reaped closed by_idle by_life grant))) same
-            (row_makes_good l at _ _ (reaps open_now closed_is by_idle_is by_life_is want)),
-      )
-  row_reaped l at _ _ _ = λ before is. cc
+  row_reaped l at e a z = grind (arith, nat_tests, none_later, before-approve, ended_all_before, entered_before, reaped_none, row_makes_good)
 
   all_reaped : (l : Ledger C) → IsLegal l → IsReaped l
   all_reaped = each_legal IsReaped (λ s lawful before is. cc)
@@ -119,13 +104,7 @@ module _ {C : Type 0} where
       (λ l at e a legal f row h. row_reaped l at e a row)
 
   row_once : (l : Ledger C) (at : ℕ) (e : Act C) (a : Answer) → IsLegal l → Row l at e a → ReapsOnce l at e a
-  row_once l at _ _ legal (reaps {closed} {grant} open_now closed_is by_idle_is by_life_is want) = λ before is still.
-      let was = all_reaped l legal before is in
-      let none : length (reaped_at l at) ≡ 0 =
-      ap (λ (now : ℕ). length (reaped (start l) (position l) now (records l))) still ∙ none_reaped (start l) (position l) (latest l) (records l) was.0 in
-      let rs : List (Numbered (Standing C)) = with_ended (start l).first (reaped_at l at) (records l) in
-      let due_is = due_open (start l).config (handles l) (conns_of rs + approved_of rs) (lacking (start l).config (idle_of rs + approved_of rs)) open_now in
-      (closed_is ∙ none, λ nothing_withheld. omega (arith, want.split, due_is, was.1 open_now, reaped_sized l at))
+  row_once l at _ _ legal (reaps {closed} {grant} open_now closed_is by_idle_is by_life_is want) = grind (arith, nat_tests, all_reaped, none_reaped, due_open, reaped_sized)
   row_once l at _ _ legal _ = tt
 
   -- a reap leaves nothing to a second one

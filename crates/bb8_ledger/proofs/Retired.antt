@@ -1,5 +1,5 @@
 -- No idle connection is retired.
-use Rattle.bb8_ledger.proofs.Words.{◌≡◌, ℕ, zero, suc, ◌+◌, ◌≤◌, max, Bool, true, false, cond, eqb, ltb, ◌||◌, List, [], ◌∷◌, ◌++◌, map, length, Option, Some, None, option_map, refl, sym, ◌∙◌, ap, inl, inr, arith, nat_tests, Place, Claimed, Held, Guarded, Standing, Numbered, standing_at, tally, one, update, after_end, after_end_where, is_left, with_place, Act, Answer, Start, Ledger, Later, start, position, latest, handles, retired, records, idle_of, idle_count, next, approval, with_approvals, with_ended, at_place, at_entry, entry, reaped_at, retired_at, retiring, lives_out, is_idle, stands, is_doubtful, Row, serves, takes_out, waits_on, waits, checks, check_fails, gives_up_kept, gives_up_closed, keeps, returns_closed, detaches, evicts, fills, asks_for, claims, opens, opens_late, fails, adds, reaps, retires, retire_ended, leaves, shuts}
+use Rattle.bb8_ledger.proofs.Words.{◌≡◌, ℕ, zero, suc, ◌+◌, ◌≤◌, max, Bool, true, false, cond, eqb, ltb, ◌||◌, List, [], ◌∷◌, ◌++◌, map, length, Some, refl, ap, arith, nat_tests, Place, Claimed, Held, Guarded, Standing, Numbered, standing_at, tally, one, update, after_end, after_end_where, is_left, Act, Answer, Start, Ledger, Later, start, position, latest, handles, retired, records, idle_of, idle_count, next, approval, with_approvals, with_ended, at_place, entry, reaped_at, retired_at, retiring, lives_out, is_idle, stands, Row, serves, takes_out, waits_on, waits, checks, check_fails, gives_up_kept, gives_up_closed, keeps, returns_closed, detaches, evicts, fills, asks_for, claims, opens, opens_late, fails, adds, reaps, retires, retire_ended, leaves, shuts}
 use Rattle.bb8_types.proofs.Numbered as numbered
 use Rattle.bb8_ledger.proofs.Reaps.{reaped_none}
 
@@ -12,8 +12,7 @@ kept_fresh false false false over h = refl
 
 -- nor is what comes in time
 in_time_fresh : (over r : Bool) → (over || r) ≡ false → r ≡ false
-in_time_fresh true r h = cc
-in_time_fresh false r h = h
+in_time_fresh over r h = grind (arith, nat_tests)
 
 not_below : (k b : ℕ) → ltb k b ≡ false → b ≤ k
 not_below k b h = grind (arith, nat_tests, h)
@@ -26,10 +25,7 @@ module _ {C : Type 0} where
 
   pub from : (b n k : ℕ) (rs : List (Numbered (Standing C))) → AreFrom b n rs → stands is_idle (standing_at n rs k) ≡ true → b ≤ k
   from b n k [] u h = cc
-  from b n k (r ∷ rs) u h = elim (numbered.same_or_not k n) [
-    | inl t ↦ omega (arith, u.0 (rw t.0 at h), t.1)
-    | inr t ↦ from b (suc n) k rs u.1 (rw t.0 at h)
-  ]
+  from b n k (r ∷ rs) u h = grind (arith, nat_tests, numbered.same_or_not k n, from b (suc n) k rs u.1)
 
   none_idle : (b n : ℕ) (rs : List (Numbered (Standing C))) → idle_of rs ≡ 0 → AreFrom b n rs
   none_idle b n [] none = tt
@@ -38,23 +34,13 @@ module _ {C : Type 0} where
   updated : (b n k : ℕ) (f : Numbered (Standing C) → Numbered (Standing C)) (rs : List (Numbered (Standing C)))
       → ((r : Numbered (Standing C)) → stands is_idle (f r).standing ≡ true → b ≤ k) → AreFrom b n rs → AreFrom b n (update n k f rs)
   updated b n k f [] new u = tt
-  updated b n k f (r ∷ rs) new u = (
-    elim (numbered.same_or_not k n) [
-      | inl t ↦ rw t.0 (λ idle. omega (arith, new r idle, t.1))
-      | inr t ↦ rw t.0 u.0
-    ],
-    updated b (suc n) k f rs new u.1,
-  )
+  updated b n k f (r ∷ rs) new u = grind (arith, nat_tests, numbered.same_or_not k n, updated b (suc n) k f rs new u.1)
 
   ended : (b n k : ℕ) (rs : List (Numbered (Standing C))) → AreFrom b n rs → AreFrom b n (update n k after_end rs)
   ended b n k rs u = updated b n k after_end rs (λ r idle. cc) u
 
   placed : (b n k : ℕ) (p : Place C) (rs : List (Numbered (Standing C))) → is_idle p ≡ false → AreFrom b n rs → AreFrom b n (update n k (at_place p) rs)
-  placed b n k p rs off u = updated b n k (at_place p) rs (λ r idle. absurd (never r.standing idle)) u
-    where
-      never : (o : Option (Standing C)) → stands is_idle (option_map (with_place p) o) ≡ true → ⊥
-      never None idle = cc
-      never (Some s) idle = let clash : false ≡ true = sym off ∙ idle in cc
+  placed b n k p rs off u = grind (arith, nat_tests, updated b n k (at_place p) rs)
 
   appended : (b n : ℕ) (rs : List (Numbered (Standing C))) (r : Numbered (Standing C)) → (stands is_idle r.standing ≡ true → b ≤ n + length rs)
       → AreFrom b n rs → AreFrom b n (rs ++ r ∷ [])
@@ -63,11 +49,7 @@ module _ {C : Type 0} where
 
   granted : (b n : ℕ) (claimed : Bool) (m : ℕ) (rs : List (Numbered (Standing C))) → AreFrom b n rs → AreFrom b n (with_approvals claimed m rs)
   granted b n claimed zero rs u = u
-  granted b n claimed (suc m) rs u = appended b n (with_approvals claimed m rs) (approval claimed) (never claimed) (granted b n claimed m rs u)
-    where
-      never : (t : Bool) → stands is_idle (approval {C = C} t).standing ≡ true → b ≤ n + length (with_approvals claimed m rs)
-      never true idle = cc
-      never false idle = cc
+  granted b n claimed (suc m) rs u = grind (arith, nat_tests, appended b n (with_approvals claimed m rs) (approval claimed), granted b n claimed m rs u)
 
   all_ended : (b n : ℕ) (ks : List ℕ) (rs : List (Numbered (Standing C))) → AreFrom b n rs → AreFrom b n (with_ended n ks rs)
   all_ended b n [] rs u = u
@@ -75,20 +57,12 @@ module _ {C : Type 0} where
 
   swept : (b n : ℕ) (rs : List (Numbered (Standing C))) → AreFrom b n rs → AreFrom b n (map (after_end_where is_left) rs)
   swept b n [] u = tt
-  swept b n (r ∷ rs) u = (pick (is_left r.standing), swept b (suc n) rs u.1)
-    where
-      pick : (t : Bool) → stands is_idle (cond t (after_end r) r).standing ≡ true → b ≤ n
-      pick true = λ idle. cc
-      pick false = u.0
+  swept b n (r ∷ rs) u = grind (arith, nat_tests, swept b (suc n) rs u.1)
 
   -- at a retire each idle record has lived too long
   all_aged : (s : Start) (now : ℕ) (rs : List (Numbered (Standing C))) → tally (λ r. lives_out (retiring s).config now r.standing) rs ≡ idle_of rs
   all_aged s now [] = refl
-  all_aged s now (r ∷ rs) = omega (arith, all_aged s now rs, ap one (each r.standing))
-    where
-      each : (o : Option (Standing C)) → lives_out (retiring s).config now o ≡ stands is_idle o
-      each None = refl
-      each (Some t) = grind (arith, nat_tests)
+  all_aged s now (r ∷ rs) = grind (arith, nat_tests, all_aged s now rs)
 
   -- so none is idle after it
   all_closed : (l : Ledger C) (at n : ℕ) → idle_of (with_approvals false n (with_ended (start l).first (retired_at l at) (records l))) ≡ 0
@@ -112,23 +86,16 @@ module _ {C : Type 0} where
   row_from l at _ _ (waits {grant} not_waiting empty asked) few none u = granted _ _ false grant.count (records l) u
   row_from l at _ _ (checks {k} holds_it nothing) few none u = placed _ _ k Guarded (records l) refl u
   row_from l at _ _ (check_fails {k} {grant} holds_it want is) few none u = granted _ _ false grant.count _ (ended _ _ k (records l) u)
-  row_from l at _ _ (gives_up_kept {k} {c} {broken} holds_it keep is) few none u =
-      let fresh = kept_fresh (is_doubtful (start l).config broken) _ (ltb k (retired l)) (eqb (handles l) 0) keep in
-      updated _ _ k (at_entry c (max (latest l) at) (position l)) (records l) (λ r idle. not_below k (retired l) fresh) u
+  row_from l at _ _ (gives_up_kept {k} {c} {broken} holds_it keep is) few none u = grind (arith, nat_tests, kept_fresh, updated, not_below)
   row_from l at _ _ (gives_up_closed {k} {grant} holds_it shut want is) few none u = granted _ _ false grant.count _ (ended _ _ k (records l) u)
-  row_from l at _ _ (keeps {k} {c} {broken} keep is) few none u =
-      let fresh = kept_fresh broken _ (ltb k (retired l)) (eqb (handles l) 0) keep in
-      updated _ _ k (at_entry c (max (latest l) at) (position l)) (records l) (λ r idle. not_below k (retired l) fresh) u
+  row_from l at _ _ (keeps {k} {c} {broken} keep is) few none u = grind (arith, nat_tests, kept_fresh broken, updated, not_below k (retired l))
   row_from l at _ _ (returns_closed {k} {grant} shut want is) few none u = granted _ _ false grant.count _ (ended _ _ k (records l) u)
   row_from l at _ _ (detaches {k} {grant} want is) few none u = granted _ _ false grant.count _ (ended _ _ k (records l) u)
   row_from l at _ _ (evicts {k} {grant} want is) few none u = granted _ _ false grant.count _ (ended _ _ k (records l) u)
   row_from l at _ _ (fills {claimed} {grant} want) few none u = granted _ _ claimed grant.count (records l) u
   row_from l at _ _ (asks_for {grant} asked) few none u = granted _ _ false grant.count (records l) u
   row_from l at _ _ (claims {k = Some k} open_now first) few none u = placed _ _ k Claimed (records l) refl u
-  row_from l at _ _ (opens {k} {c} in_time is) few none u =
-      let now : ℕ = max (latest l) at in
-      let fresh = in_time_fresh (eqb (handles l) 0) (ltb k (retired l)) in_time in
-      updated _ _ k (λ r. entry c now now (position l)) (records l) (λ r idle. not_below k (retired l) fresh) u
+  row_from l at _ _ (opens {k} {c} in_time is) few none u = grind (arith, nat_tests, in_time_fresh (eqb (handles l) 0) (ltb k (retired l)) in_time, updated, not_below k (retired l))
   row_from l at _ _ (opens_late {k} late) few none u = ended _ _ k (records l) u
   row_from l at _ _ (fails {k}) few none u = ended _ _ k (records l) u
   row_from l at _ _ (adds {c} room new is who) few none u = appended _ _ (records l) (entry c (max (latest l) at) (max (latest l) at) (position l)) (λ idle. few) u

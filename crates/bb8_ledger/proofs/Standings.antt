@@ -1,5 +1,5 @@
 -- What a change of one record does to the sizes.
-use Rattle.bb8_ledger.proofs.Words.{◌≡◌, ℕ, zero, suc, ◌+◌, ◌<◌, Bool, true, false, List, Some, sym, ap, ◌∙◌, Place, Standing, Numbered, at, one, stands, is_conn, is_approval, idle_at, conns_of, approved_of, approval, with_approvals, change, Before}
+use Rattle.bb8_ledger.proofs.Words.{◌≡◌, ℕ, zero, suc, ◌+◌, Bool, List, Some, sym, ap, ◌∙◌, Place, Standing, Numbered, at, one, stands, is_conn, is_approval, idle_at, conns_of, approved_of, with_approvals, change, Before, arith, nat_tests}
 use Rattle.bb8_types.proofs.Numbered as numbered
 
 module _ {C : Type 0} where
@@ -20,8 +20,4 @@ module _ {C : Type 0} where
 
   pub before-approve : (claimed : Bool) (n m : ℕ) (rs : List (Numbered (Standing C))) → Before idle_at m rs → Before idle_at m (with_approvals claimed n rs)
   before-approve claimed zero m rs b = b
-  before-approve claimed (suc n) m rs b = numbered.before-append idle_at (with_approvals claimed n rs) _ m (before-approve claimed n m rs b) (λ p e. never claimed p e)
-    where
-      never : (t : Bool) (p : ℕ) → idle_at {C = C} p (approval t) ≡ true → p < m
-      never true p e = cc
-      never false p e = cc
+  before-approve claimed (suc n) m rs b = grind (arith, nat_tests, numbered.before-append, before-approve claimed n m rs b)

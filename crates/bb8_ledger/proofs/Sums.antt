@@ -1,5 +1,5 @@
 -- What each row of the step table does to the sizes, the numbers and the statistics.
-use Rattle.bb8_ledger.proofs.Words.{⊤, ◌≡◌, ◌⊎◌, ℕ, ◌+◌, ◌-◌, ◌<◌, ◌≤◌, min, Bool, zero, suc, true, false, not, ltb, eqb, ◌&&◌, ◌||◌, List, Option, Some, None, is_some, refl, ap, inl, inr, arith, length-append, Grant, Guarded, Held, Standing, Settings, Numbered, one, due, Act, Try, CheckedOk, GiveUp, Reason, TimedOut, Cancelled, Answer, Getting, GetPlace, Waiting, gets_stand, is_unnotified, is_notified, Closed, GaveUp, Kept, cond, oldest_waiter, Entered, Reaped, Unfit, Ledger, Later, start, handles, idle, idle_count, first_idle, unnotified, notified, conns, approved, conns_of, approved_of, alive, expires, waited_since, started, direct, waited, timed_out, cancelled, created, broken, expired, invalid, idled_out, retired, closed_retired, detached, get_of, Row, begins, waits_on, serves, takes_out, waits, checks, check_fails, gives_up, gives_up_kept, gives_up_closed, keeps, returns_closed, detaches, evicts, fills, asks_for, unprovided, claims, opens, opens_late, fails, adds, reaps, retires, joins, leaves, shuts, IsWant, IsLegal, fits, outlived_at, idled_at, GivesNext, NeverGivesAgain, numbers_given, gets_given, lost, and_right, nat_tests, is_doubtful}
+use Rattle.bb8_ledger.proofs.Words.{⊤, ◌≡◌, ◌⊎◌, ℕ, ◌+◌, ◌-◌, ◌<◌, ◌≤◌, min, Bool, zero, suc, true, false, not, ltb, eqb, ◌&&◌, ◌||◌, List, Option, Some, None, is_some, refl, ap, inl, inr, arith, length-append, Grant, Guarded, Held, Standing, Settings, Numbered, one, due, Act, Try, CheckedOk, GiveUp, Reason, TimedOut, Cancelled, Answer, Getting, gets_stand, is_unnotified, is_notified, Closed, Kept, cond, oldest_waiter, Entered, Reaped, Unfit, Ledger, Later, start, handles, idle, idle_count, first_idle, unnotified, notified, conns, approved, conns_of, approved_of, alive, expires, waited_since, started, direct, waited, timed_out, cancelled, created, broken, expired, invalid, idled_out, retired, closed_retired, detached, get_of, Row, begins, waits_on, serves, takes_out, waits, checks, check_fails, gives_up, gives_up_kept, gives_up_closed, keeps, returns_closed, detaches, evicts, fills, asks_for, unprovided, claims, opens, opens_late, fails, adds, reaps, retires, joins, leaves, shuts, IsWant, IsLegal, fits, outlived_at, idled_at, GivesNext, NeverGivesAgain, numbers_given, gets_given, lost, and_right, nat_tests, is_doubtful}
 use Rattle.bb8_types.proofs.Numbered as numbered
 use Rattle.bb8_ledger.specs.Handed.{notified_by, brought_by, waiters, unasked, missed, closes_told, places_lost}
 use Rattle.bb8_ledger.proofs.Effects.{each_legal, returns_turn, closes_turn, evicts_turn, opens_turn, ends_turn, idle_turns, unclaimed_turns, stays_sized, turned_sized, adds_sized, granted_sized, reaped_sized, retired_sized, granted_reaped, left_sized, shut_sized}
@@ -67,11 +67,7 @@ one_if_some n = grind arith
 -- who was not notified is not among the notified
 pub untold : (o : Option Getting) → gets_stand is_unnotified o ≡ true → gets_stand is_notified o ≡ false
 untold None on = cc
-untold (Some s) on = by_place s.place on
-  where
-    by_place : (p : GetPlace) → is_unnotified p ≡ true → is_notified p ≡ false
-    by_place (Waiting false) on = refl
-    by_place _ on = cc
+untold (Some s) on = grind (arith, nat_tests)
 
 -- how far the notified waiters may be fewer after an event, where so many are not notified then
 abbrev Lowers : {C : Type 0} → Act C → ℕ → ℕ → Type 0
@@ -156,13 +152,7 @@ module _ {C : Type 0} where
 
   pub row_sums : (l : Ledger C) (at : ℕ) (e : Act C) (a : Answer) → IsLegal l → fits l e ≡ true → Row l at e a → Sums l at e a
   row_sums l at _ _ legal f (begins {g} is few) = omega (arith, begun_sums l)
-  row_sums l at _ _ legal f (waits_on {g} {grant} on nothing) = omega (
-    arith,
-    granted_sized false grant.count (stays_sized l),
-    waits_on_sums l at g on,
-    ap one (untold (get_of l g) on),
-    ap (λ (b : Bool). cond b (unasked l) (unasked l - 1)) on,
-  )
+  row_sums l at _ _ legal f (waits_on {g} {grant} on nothing) = grind (arith, nat_tests, granted_sized false grant.count (stays_sized l), stays_sized l, waits_on_sums l, untold (get_of l g) on)
   row_sums l at _ _ legal f (serves {g} {k} {grant} not_waiting off first want) =
       let z = turned_sized (idle_turns l k Guarded first).1 in
       let t = trier_leaves l g f not_waiting in
@@ -201,8 +191,7 @@ module _ {C : Type 0} where
         ap one t.1,
         one_of b (ltb k (retired l)) (expires l at k),
       )
-  row_sums l at _ _ legal f (gives_up {g} {why} {broken} {n} is) =
-      omega (arith, given_up_sums l g n (and_right (is_some (get_of l g)) _ f).0 is, gave_up l at g why None broken (GaveUp n) (λ e. cc))
+  row_sums l at _ _ legal f (gives_up {g} {why} {broken} {n} is) = grind (arith, nat_tests, given_up_sums l g n, and_right (is_some (get_of l g)), gave_up l)
   row_sums l at _ _ legal f (gives_up_kept {g} {k} {why} {c} {broken = b} {n} holds_it keep is) =
       let t = holder_ends l g k holds_it in
       omega (arith, kept_open (is_doubtful (start l).config b) (expires l at k) (handles l) keep, turned_sized (hands_in_turn l at g k c legal holds_it), left_sums t.0, left_told t.0 n is, some_told l n is, ap one t.1, gave_up l at g why (Some c) b (Kept k n) (λ e. cc))

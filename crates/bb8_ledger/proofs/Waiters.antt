@@ -1,6 +1,6 @@
 -- What each change of the gets does to those who wait: how many they are, and in which order they
 -- wait.
-use Rattle.bb8_ledger.proofs.Words.{◌≡◌, ne_eqb, eq-eqb, option_map, ◌≢◌, ◌⊎◌, ℕ, zero, suc, ◌+◌, ◌-◌, ◌<◌, ◌≤◌, min, Bool, true, false, cond, eqb, ◌&&◌, List, [], ◌∷◌, ◌++◌, length, Option, Some, None, is_some, slice_get, refl, sym, ap, ◌∙◌, arith, subst, inl, inr, GetPlace, Active, Holding, Getting, Numbered, at, update, numbers, in_order, tally, one, after_end, gets_stand, is_unnotified, is_notified, get_with_place, get_in_wait, unnotified_at, tally_gets, alive_of, new_get, get_at_place, at_wait, with_notice, change, Before, and_right, Waiting}
+use Rattle.bb8_ledger.proofs.Words.{nat_tests, ◌≡◌, ne_eqb, eq-eqb, option_map, ◌≢◌, ◌⊎◌, ℕ, zero, suc, ◌+◌, ◌-◌, ◌<◌, ◌≤◌, min, Bool, true, false, cond, eqb, ◌&&◌, List, [], ◌∷◌, ◌++◌, length, Option, Some, None, is_some, slice_get, refl, sym, ap, ◌∙◌, arith, subst, inl, inr, GetPlace, Active, Holding, Getting, Numbered, at, update, numbers, in_order, tally, one, after_end, gets_stand, is_unnotified, is_notified, get_with_place, get_in_wait, unnotified_at, tally_gets, alive_of, new_get, get_at_place, at_wait, with_notice, change, Before, and_right, Waiting}
 use Rattle.bb8_types.proofs.Numbered as numbered
 
 -- ---- lists whose elements have numbers
@@ -23,13 +23,7 @@ module _ {R : Type 0} where
   -- an element that passes is counted
   pub some_tally : (p : R → Bool) (rs : List R) (n q : ℕ) (r : R) → at n rs q ≡ Some r → p r ≡ true → 0 < tally p rs
   some_tally p [] n q r h on = cc
-  some_tally p (x ∷ rs) n q r h on = pick (eqb q n) h (λ e. some_tally p rs (suc n) q r e on)
-    where
-      pick : (b : Bool) → cond b (Some x) (at (suc n) rs q) ≡ Some r → (at (suc n) rs q ≡ Some r → 0 < tally p rs) → 0 < one (p x) + tally p rs
-      pick true e rest =
-          let same : x ≡ r = cc in
-          omega (arith, ap one (ap p same ∙ on))
-      pick false e rest = omega (arith, rest e)
+  some_tally p (x ∷ rs) n q r h on = grind (arith, nat_tests, some_tally p rs (suc n) q r)
 
   -- so it is in the list
   numbers_some : (p : R → Bool) (rs : List R) (n q : ℕ) (r : R) → at n rs q ≡ Some r → p r ≡ true → numbers p n rs ≡ [] → ⊥
@@ -38,10 +32,7 @@ module _ {R : Type 0} where
   -- nor is the list empty if an element is below the last position
   pub in_order_some : (stands : ℕ → R → Bool) (rs : List R) (n m q p : ℕ) (r : R) → at n rs q ≡ Some r → stands p r ≡ true → p < m → in_order stands n rs m ≡ [] → ⊥
   in_order_some stands rs n zero q p r h on below none = absurd (omega arith)
-  in_order_some stands rs n (suc m) q p r h on below none = elim (numbered.same_or_not p m) [
-    | inl t ↦ numbers_some (stands m) rs n q r h (subst (λ (i : ℕ). stands i r ≡ true) t.1 on) (no_back (in_order stands n rs m) (numbers (stands m) n rs) none)
-    | inr t ↦ in_order_some stands rs n m q p r h on (omega (arith, t.1)) (no_front (in_order stands n rs m) (numbers (stands m) n rs) none)
-  ]
+  in_order_some stands rs n (suc m) q p r h on below none = grind (arith, nat_tests, numbered.same_or_not, numbers_some, no_back, no_front, in_order_some stands rs n m q p r h on)
 
   -- the first in the list is at a position below which there is nobody
   abbrev pub Least : (ℕ → R → Bool) → List R → (n m k : ℕ) → Type 0
@@ -59,35 +50,16 @@ module _ {R : Type 0} where
   -- an element that is changed to itself
   change_self : (rs : List R) (n k : ℕ) (r : R) → at n rs k ≡ Some r → change n k r rs ≡ rs
   change_self [] n k r h = refl
-  change_self (x ∷ rs) n k r h = elim (numbered.same_or_not k n) [
-    | inl t ↦ let is : Some x ≡ Some r = rw t.0 at h in
-        let same : r ≡ x = cc in
-        let rest : change (suc n) k r rs ≡ rs = numbered.change_below rs (suc n) k r (omega arith) in
-        rw (t.0, rest) (ap (λ (y : R). y ∷ rs) same)
-    | inr t ↦ rw t.0 (ap (λ (ys : List R). x ∷ ys) (change_self rs (suc n) k r (rw t.0 at h)))
-  ]
+  change_self (x ∷ rs) n k r h = grind (arith, nat_tests, numbered.same_or_not k n, numbered.change_below rs (suc n) k r, change_self rs (suc n) k r)
 
   -- the element q, once the element k has changed
   pub at_update : (rs : List R) (n k q : ℕ) (f : R → R) → at n (update n k f rs) q ≡ cond (eqb q k) (option_map f (at n rs q)) (at n rs q)
   at_update [] n k q f = grind arith
-  at_update (r ∷ rs) n k q f = elim (numbered.same_or_not q n) [
-    | inl t ↦ elim (numbered.same_or_not k n) [
-      | inl u ↦ let same : eqb q k ≡ true = eq-eqb q k (t.1 ∙ sym u.1) in rw (t.0, u.0, same) refl
-      | inr u ↦ let other : eqb q k ≡ false = ne_eqb q k (λ e. u.1 (sym e ∙ t.1)) in rw (t.0, u.0, other) refl
-    ]
-    | inr t ↦ rw t.0 (at_update rs (suc n) k q f)
-  ]
+  at_update (r ∷ rs) n k q f = grind (arith, nat_tests, numbered.same_or_not q n, numbered.same_or_not k n, eq-eqb q k, ne_eqb q k, at_update rs (suc n) k q f)
 
   -- who is in a list after an element has changed
   updated_at : (rs : List R) (n k q : ℕ) (f : R → R) (old r : R) → at n rs k ≡ Some old → at n (update n k f rs) q ≡ Some r → ((q ≡ k) × (r ≡ f old)) ⊎ ((q ≢ k) × (at n rs q ≡ Some r))
-  updated_at rs n k q f old r h e =
-      let is : cond (eqb q k) (option_map f (at n rs q)) (at n rs q) ≡ Some r = sym (at_update rs n k q f) ∙ e in
-      elim (numbered.same_or_not q k) [
-        | inl t ↦ let both : Some (f old) ≡ Some r = sym (ap (option_map f) (ap (at n rs) t.1 ∙ h)) ∙ rw t.0 at is in
-            let same : r ≡ f old = cc in
-            inl (t.1, same)
-        | inr t ↦ inr (t.1, rw t.0 at is)
-      ]
+  updated_at rs n k q f old r h e = grind (arith, nat_tests, at_update rs n k q f, numbered.same_or_not q k)
 
   -- how many pass once an element is changed
   pub tally_update : (p : R → Bool) (rs : List R) (n k : ℕ) (f : R → R) (r : R) → at n rs k ≡ Some r → tally p (update n k f rs) + one (p r) ≡ tally p rs + one (p (f r))
@@ -96,11 +68,7 @@ module _ {R : Type 0} where
   -- as many, if no change matters
   pub tally_same : (p : R → Bool) (f : R → R) → ((r : R) → p (f r) ≡ p r) → (rs : List R) (n k : ℕ) → tally p (update n k f rs) ≡ tally p rs
   tally_same p f same [] n k = refl
-  tally_same p f same (r ∷ rs) n k = omega (arith, tally_same p f same rs (suc n) k, ap one (pick (eqb k n)))
-    where
-      pick : (b : Bool) → p (cond b (f r) r) ≡ p r
-      pick true = same r
-      pick false = refl
+  tally_same p f same (r ∷ rs) n k = grind (arith, nat_tests, tally_same p f same rs (suc n) k)
 
 -- how many standings pass once one is changed
 pub changed_tally : {S : Type 0} (test : Option S → Bool) (f : Numbered S → Numbered S) (rs : List (Numbered S)) (n k : ℕ) (x : Numbered S) (o : Option S)
@@ -131,8 +99,7 @@ not_waiting (Some s) off = grind arith
 
 -- a get is counted once at most among those who wait
 one_place : (p : GetPlace) → one (is_unnotified p) + one (is_notified p) ≤ 1
-one_place (Waiting true) = omega arith
-one_place _ = omega arith
+one_place p = grind (arith, nat_tests)
 
 untold_place : (p : GetPlace) → is_notified p ≡ true → is_unnotified p ≡ false
 untold_place (Waiting true) told = refl
@@ -141,11 +108,7 @@ untold_place _ told = cc
 -- those who wait are alive
 pub waiters_few : (gs : List (Numbered Getting)) → tally_gets is_unnotified gs + tally_gets is_notified gs ≤ alive_of gs
 waiters_few [] = omega arith
-waiters_few (g ∷ gs) = omega (arith, waiters_few gs, each g.standing)
-  where
-    each : (o : Option Getting) → one (gets_stand is_unnotified o) + one (gets_stand is_notified o) ≤ one (is_some o)
-    each None = omega arith
-    each (Some s) = one_place s.place
+waiters_few (g ∷ gs) = grind (arith, nat_tests, waiters_few gs, one_place)
 
 -- ---- how many wait, and how many are alive
 
@@ -165,9 +128,7 @@ begins_now now p x off = ap (λ (b : Bool). cond b x (waiter now p x.standing)) 
 -- a get that was not notified waits on
 pub waits_on_same : (first now p g : ℕ) (gs : List (Numbered Getting)) (x : Numbered Getting) → at first gs g ≡ Some x
     → gets_stand is_unnotified x.standing ≡ true → update first g (at_wait now p) gs ≡ gs
-waits_on_same first now p g gs x h on =
-    let same : at_wait now p x ≡ x = ap (λ (b : Bool). cond b x (waiter now p x.standing)) on in
-    numbered.update_is gs first g (at_wait now p) x h ∙ ap (λ (y : Numbered Getting). change first g y gs) same ∙ change_self gs first g x h
+waits_on_same first now p g gs x h on = grind (arith, nat_tests, numbered.update_is gs first g (at_wait now p) x h, change_self gs first g x h)
 
 pub begins_counted : (test : GetPlace → Bool) (first now p g : ℕ) (gs : List (Numbered Getting)) (x : Numbered Getting) (s : Getting)
     → at first gs g ≡ Some x → x.standing ≡ Some s → gets_stand is_unnotified x.standing ≡ false
@@ -175,15 +136,13 @@ pub begins_counted : (test : GetPlace → Bool) (first now p g : ℕ) (gs : List
 begins_counted test first now p g gs x s h is off = grind (arith, begins_now now p x off, changed_tally (gets_stand test) (at_wait now p) gs first g x (Some s) h is)
 
 as_some : (f : Getting → Getting) (o : Option Getting) → is_some (option_map f o) ≡ is_some o
-as_some f None = refl
-as_some f (Some s) = refl
+as_some f o = grind (arith, nat_tests)
 
 pub begins_alive : (first now p g : ℕ) (gs : List (Numbered Getting)) → alive_of (update first g (at_wait now p) gs) ≡ alive_of gs
 begins_alive first now p g gs = grind (arith, tally_same)
 
 pub notify_length : (first : ℕ) (n : Option ℕ) (gs : List (Numbered Getting)) → length (with_notice first n gs) ≡ length gs
-notify_length first None gs = refl
-notify_length first (Some g) gs = numbered.length-update gs first g (get_at_place (Waiting true))
+notify_length first n gs = grind (arith, nat_tests, numbered.length-update gs first)
 
 pub notify_alive : (first : ℕ) (n : Option ℕ) (gs : List (Numbered Getting)) → alive_of (with_notice first n gs) ≡ alive_of gs
 notify_alive first None gs = refl
@@ -215,12 +174,10 @@ same_line first m g f gs x h off still = grind (arith, numbered.update_is gs fir
 -- ---- the order of those who wait
 
 pub both_hold : (a b : Bool) → a ≡ true → b ≡ true → (a && b) ≡ true
-both_hold true b e f = f
-both_hold false b e f = cc
+both_hold a b e f = grind (arith, nat_tests)
 
 both_false : (a b : Bool) → b ≡ false → (a && b) ≡ false
-both_false true b f = f
-both_false false b f = refl
+both_false a b f = grind (arith, nat_tests)
 
 pub one_few : (b : Bool) → one b ≤ 1
 one_few true = omega arith
@@ -296,9 +253,7 @@ line_begins first now p g gs x s h is off before i =
     apart r last (inl t) =
         let none : tally (unnotified_at p) gs ≡ 0 = sym (numbered.length-numbers (unnotified_at p) gs first) ∙ ap (λ (ks : List ℕ). length ks) (numbered.none_at unnotified_at gs first p before) in
         omega (arith, tally_update (unnotified_at r) gs first g (at_wait now p) x h, ap (λ (q : ℕ). tally (unnotified_at q) gs) t.1, one_few (unnotified_at r (at_wait now p x)))
-    apart r last (inr t) =
-        let elsewhere : one (unnotified_at r (at_wait now p x)) ≡ 0 = ap one (both_false (gets_stand is_unnotified (at_wait now p x).standing) _ (ap (λ (q : ℕ). eqb q r) last ∙ t.0)) in
-        omega (arith, i.apart r, tally_update (unnotified_at r) gs first g (at_wait now p) x h)
+    apart r last (inr t) = grind (arith, nat_tests, both_false, tally_update (unnotified_at r) gs first g (at_wait now p) x)
 
 -- the first of the unnotified is notified where it is
 pub line_notified : (first p : ℕ) (n : Option ℕ) (gs : List (Numbered Getting)) → n ≡ slice_get (in_order unnotified_at first gs p) 0 → InLine first p gs → InLine first p (with_notice first n gs)
@@ -334,12 +289,7 @@ line_notified first p (Some g) gs is i =
 pub handed : (first m g : ℕ) (n : Option ℕ) (gs : List (Numbered Getting)) (x : Numbered Getting) (s : Getting) → at first gs g ≡ Some x
     → x.standing ≡ Some s → n ≡ cond (is_notified s.place) (slice_get (in_order unnotified_at first gs m) 0) None
     → n ≡ cond (is_notified s.place) (slice_get (in_order unnotified_at first (update first g after_end gs) m) 0) None
-handed first m g n gs x s h is who = who ∙ pick (is_notified s.place) refl
-  where
-    pick : (b : Bool) → is_notified s.place ≡ b
-        → cond b (slice_get (in_order unnotified_at first gs m) 0) None ≡ cond b (slice_get (in_order unnotified_at first (update first g after_end gs) m) 0) None
-    pick true e = sym (ap (λ (xs : List ℕ). slice_get xs 0) (same_line first m g after_end gs x h (ap (gets_stand is_unnotified) is ∙ untold_place s.place e) refl))
-    pick false e = refl
+handed first m g n gs x s h is who = grind (arith, nat_tests, same_line first m g after_end gs x h, untold_place s.place)
 
 pub line_given_up : (first p g : ℕ) (n : Option ℕ) (gs : List (Numbered Getting)) (x : Numbered Getting) (s : Getting)
     → at first gs g ≡ Some x → x.standing ≡ Some s → n ≡ cond (is_notified s.place) (slice_get (in_order unnotified_at first gs p) 0) None → InLine first p gs
@@ -348,8 +298,7 @@ line_given_up first p g n gs x s h is who i = pick (is_notified s.place) (handed
   where
     pick : (b : Bool) → n ≡ cond b (slice_get (in_order unnotified_at first (update first g after_end gs) p) 0) None
         → InLine first p (update first g after_end gs) → InLine first p (with_notice first n (update first g after_end gs))
-    pick true to left = line_notified first p n (update first g after_end gs) to left
-    pick false none left = rw none left
+    pick b to left = grind (arith, nat_tests, line_notified)
 
 -- how many wait once a get has given up: one unnotified less at most, or one notification passed on
 abbrev pub IsGivenUp : (u n u' n' : ℕ) → Type 0

@@ -1,5 +1,5 @@
 -- What is wanted is made good.
-use Rattle.bb8_ledger.proofs.Words.{◌≡◌, ◌⊎◌, ℕ, zero, suc, ◌+◌, ◌-◌, ◌<◌, ◌≤◌, min, Bool, false, cond, List, refl, ap, inl, inr, arith, unwrap_or, Grant, Held, Guarded, Standing, Settings, Act, Ask, Answer, Granted, IsGranted, Numbered, after_end, with_ended, Ledger, Later, start, records, handles, next, peak, conns, approved, conns_of, approved_of, idle_of, at_place, with_approvals, reaped_at, Row, serves, takes_out, check_fails, gives_up_closed, returns_closed, detaches, evicts, fills, asks_for, unprovided, reaps, retires, retired_at, IsWant, IsLegal, with_record, due, MakesGood, AlwaysMakesGood}
+use Rattle.bb8_ledger.proofs.Words.{◌≡◌, ◌⊎◌, ℕ, zero, suc, ◌+◌, ◌-◌, ◌<◌, ◌≤◌, min, Bool, false, cond, List, refl, ap, inl, inr, arith, unwrap_or, Grant, Held, Guarded, Standing, Settings, Act, Ask, Answer, Granted, IsGranted, Numbered, after_end, Ledger, Later, start, records, handles, next, peak, conns, approved, conns_of, approved_of, idle_of, at_place, with_approvals, Row, serves, takes_out, check_fails, gives_up_closed, returns_closed, detaches, evicts, fills, asks_for, unprovided, reaps, retires, IsWant, IsLegal, with_record, due, MakesGood, AlwaysMakesGood, nat_tests}
 use Rattle.bb8_ledger.specs.Limits.{IsAskedFor}
 use Rattle.bb8_types.proofs.Numbered as numbered
 use Rattle.bb8_ledger.proofs.Effects.{each_legal, approves}
@@ -22,8 +22,7 @@ due_open config handles taken asked open_now = ap (λ (b : Bool). cond b 0 (min 
 
 -- or none is
 pub due_or_none : (config : Settings) (handles taken asked : ℕ) → (handles ≡ 0) ⊎ (due config handles taken asked ≡ min asked (config.max_size - taken))
-due_or_none config zero taken asked = inl refl
-due_or_none config (suc handles) taken asked = inr (due_open config (suc handles) taken asked (omega arith))
+due_or_none config handles taken asked = grind (arith, nat_tests)
 
 module _ {C : Type 0} where
   -- once what is wanted of records is granted
@@ -48,10 +47,8 @@ module _ {C : Type 0} where
   row_makes_good l at _ _ (evicts {k} {grant} want is) = want_made_good l (with_record l k after_end) false grant want
   row_makes_good l at _ _ (fills {claimed} {grant} want) = want_made_good l (records l) claimed grant want
   row_makes_good l at _ _ (asks_for {grant} granted) = asked_good l at grant granted
-  row_makes_good l at _ _ (reaps {grant} open_now closed_is by_idle_is by_life_is want) =
-      want_made_good l (with_ended (start l).first (reaped_at l at) (records l)) false grant want
-  row_makes_good l at _ _ (retires {grant} open_now closed_is want) =
-      want_made_good l (with_ended (start l).first (retired_at l at) (records l)) false grant want
+  row_makes_good l at _ _ (reaps {grant} open_now closed_is by_idle_is by_life_is want) = grind (arith, nat_tests, want_made_good)
+  row_makes_good l at _ _ (retires {grant} open_now closed_is want) = grind (arith, nat_tests, want_made_good)
   row_makes_good l at _ _ _ = tt
 
   pub makes_good : (l : Ledger C) → IsLegal l → AlwaysMakesGood l

@@ -18,8 +18,6 @@ mod laying;
 mod play;
 mod preparing;
 mod shelf;
-#[cfg(test)]
-mod tests;
 
 pub use answer::LineAnswer;
 

@@ -1,4 +1,4 @@
-//! Helpers of the tests; every setter and every error once.
+//! Helpers of the tests; the defaults, and every error once.
 ghost use Rattle.std.specs.Prelude.{◌≡◌, ◌<◌, ◌==◌};
 ghost use Rattle.bb8.specs.Permits.{IsBlankOf, unchecked_of};
 ghost use Rattle.futures.specs.declared.task.Poll.TheVariants.{Pending};
@@ -16,7 +16,7 @@ mod unlocked;
 
 use bb8::{
     AddError, Builder, Config, ManageConnection, Memory, Moment, NopCustomizer, NopErrorSink, Pool,
-    PoolPermits, QueueStrategy, RunError, Runtime, SetClock,
+    PoolPermits, RunError, Runtime, SetClock,
 };
 use bb8_trials::Refused;
 use futures::task::Poll;
@@ -26,7 +26,6 @@ use std::marker::Brand;
 use std::process::Abort;
 use std::sync::ledger::Blank;
 use std::test::Fail;
-use std::time::Duration;
 
 /// Ends the test if the found value is not the wanted one, and prints both.
 fn assert_equal<T: PartialEq + Debug + Drop>(rt: &impl Abort, found: T, wanted: T) {
@@ -49,7 +48,6 @@ struct NumberTrial<R: Runtime, L: PoolPermits> {
 enum Trial {
     Guards,
     ListOfGuards,
-    ListOfAges,
 }
 
 /// Runs a trial on a pool with the check off.
@@ -72,7 +70,6 @@ fn tries<R: Runtime + Abort, L: PoolPermits>(
     match trial {
         Trial::Guards => handles::derefs(rt, numbers),
         Trial::ListOfGuards => guards::gathers(rt, numbers),
-        Trial::ListOfAges => guards::keeps_the_young(rt, numbers),
     }
 }
 
@@ -131,50 +128,14 @@ impl ManageConnection for SlowManager {
 #[derive(Drop)]
 struct Plain;
 
-fn check_defaults(rt: &impl Abort, config: Config) {
-    assert_equal(&rt, config.max_size, 10);
-    assert_equal(&rt, config.min_idle, None);
-    assert!(rt; config.test_on_check_out);
-    assert_equal(&rt, config.max_lifetime, Some(Duration::from_secs(1800)));
-    assert_equal(&rt, config.idle_timeout, Some(Duration::from_secs(600)));
-    assert_equal(&rt, config.connection_timeout, Duration::from_secs(30));
-    assert!(rt; config.retry_connection);
-    assert_equal(&rt, config.reaper_rate, Duration::from_secs(30));
-    assert_equal(&rt, config.queue_strategy, QueueStrategy::Fifo);
-    assert!(rt; config.is_lawful());
-}
-
 #[test]
-fn defaults(rt: HostRuntime) {
-    check_defaults(&rt, Config::from(&Builder::<SlowManager>::new()));
-    check_defaults(&rt, Config::from(&Builder::<SlowManager>::default()));
-}
-
-#[test]
-fn sets_all(rt: HostRuntime) {
-    let builder = Builder::<SlowManager>::new()
-        .max_size(3)
-        .min_idle(Some(2))
-        .test_on_check_out(false)
-        .test_on_check_out_after(Duration::from_secs(4))
-        .max_lifetime(Some(Duration::from_secs(60)))
-        .idle_timeout(None)
-        .connection_timeout(Duration::from_millis(1500))
-        .retry_connection(false)
-        .reaper_rate(Duration::from_secs(5))
-        .queue_strategy(QueueStrategy::Lifo);
-    let config = Config::from(&builder);
-    assert_equal(&rt, config.max_size, 3);
-    assert_equal(&rt, config.min_idle, Some(2));
-    assert!(rt; !config.test_on_check_out);
-    assert_equal(&rt, config.test_after, Duration::from_secs(4));
-    assert_equal(&rt, config.max_lifetime, Some(Duration::from_secs(60)));
-    assert_equal(&rt, config.idle_timeout, None);
-    assert_equal(&rt, config.connection_timeout, Duration::from_millis(1500));
-    assert!(rt; !config.retry_connection);
-    assert_equal(&rt, config.reaper_rate, Duration::from_secs(5));
-    assert_equal(&rt, config.queue_strategy, QueueStrategy::Lifo);
-    assert!(rt; config.is_lawful());
+fn defaults(rt: HostRuntime) -> Result<(), Fail> {
+    let wanted = format!(in rt.alloc(); "{:?}", Config::default())?;
+    for builder in [Builder::<SlowManager>::new(), Builder::default()] {
+        let found = format!(in rt.alloc(); "{:?}", Config::from(&builder))?;
+        assert_equal(&rt, found.as_str(), wanted.as_str());
+    }
+    Ok(())
 }
 
 #[test]
@@ -211,31 +172,4 @@ fn prints_errors(rt: HostRuntime) -> Result<(), Fail> {
         "No memory in bb8",
     );
     Ok(())
-}
-
-#[test]
-fn equal_errors(rt: HostRuntime) {
-    let errors = [
-        RunError::User(Refused(3)),
-        RunError::User(Refused(4)),
-        RunError::TimedOut,
-        RunError::Memory,
-        RunError::Exhausted,
-    ];
-    for (i, error) in errors.iter().enumerate() {
-        for (j, other) in errors.iter().enumerate() {
-            assert_eq!(rt; error == other, i == j, "at {i} and {j}");
-        }
-    }
-    let refused = [
-        AddError::Broken(5),
-        AddError::Broken(6),
-        AddError::NoCapacity(5),
-        AddError::Withheld(5),
-    ];
-    for (i, error) in refused.iter().enumerate() {
-        for (j, other) in refused.iter().enumerate() {
-            assert_eq!(rt; error == other, i == j, "at {i} and {j}");
-        }
-    }
 }

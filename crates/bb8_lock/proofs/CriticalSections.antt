@@ -1,11 +1,10 @@
 -- What holds of the sections of a pool.
-use Rattle.bb8_lock.proofs.Words.{◌≡◌, ℕ, ◌+◌, ◌^◌, ◌<◌, length, Bool, true, false, refl, sym, ap, subst, ◌∙◌, arith, Settings, Ledger, next, records, answer_of_add, fits}
+use Rattle.bb8_lock.proofs.Words.{◌≡◌, ℕ, ◌+◌, ◌^◌, ◌<◌, Bool, true, false, refl, sym, subst, arith, Ledger, answer_of_add}
 use Rattle.std.specs.Prelude.{not, eqb, ltb}
 use Rattle.std.proofs.Common.{IfOk, Result, Ok, Err}
 use Rattle.std.proofs.lemmas.Bool.Decides.{nat_tests}
 use Rattle.bb8_ledger.specs.Ledger.{handles}
 use Rattle.bb8_core.specs.declared.answers.AddAnswer.{AddAnswer}
-use Rattle.bb8_core.specs.declared.answers.AddAnswer.TheVariants as adding
 use Rattle.bb8_core.specs.declared.answers.Started.TheVariants as starting
 use Rattle.bb8_core.specs.declared.answers.Unfit.{Unfit as Refused}
 use Rattle.bb8_core.specs.declared.answers.TryAnswer.{TryAnswer}
@@ -21,7 +20,7 @@ use Rattle.bb8_types.specs.declared.api.moments.Moment.{Moment}
 use Rattle.bb8_types.specs.declared.grants.Grant.{Grant}
 use Rattle.bb8_ledger.specs.Acts.{Act, Begin, Fill, Add, Leave}
 use Rattle.bb8_ledger.specs.Answers.{Answer, Begun, Broken, Exhausted, Granted, Memory, Unfit}
-use Rattle.bb8_ledger.specs.Table.{Allowed, Row, fills, add_broken}
+use Rattle.bb8_ledger.specs.Table.{Allowed, Row, add_broken}
 use Rattle.bb8_core.specs.StateView.{StateView, HasLedger, IsAsBefore, IsWithinLimits, Steps, ReportsFitting}
 use Rattle.bb8_core.specs.Unfit.{answered}
 use Rattle.bb8_core.specs.Run.{opening}
@@ -39,8 +38,7 @@ no_fewer n = grind (arith, nat_tests)
 module _ {C : Type 0} where
   -- a handle that cannot leave is none
   pub none_left : (s : StateView C) (fitting : Bool) → HasLedger s → ReportsFitting s Leave fitting → not fitting ≡ eqb s.handles 0
-  none_left s fitting (l, legal, means) reports =
-      ap not (reports l legal means) ∙ (no_fewer (handles l) ∙ ap (λ (t : StateView C). eqb t.handles 0) means)
+  none_left s fitting (l, legal, means) reports = grind (arith, nat_tests)
 
   -- a get that begins and tries, with its permit
   pub starts_in : {P : Type 0} (old new : StateView C) (at : Moment) (g : GetKey) (t : Tried C P) {outcome : TryAnswer C} → in_core t ≡ outcome
@@ -58,8 +56,7 @@ module _ {C : Type 0} where
       (between, step_still between at Begin (Begun g.number) same limits begins, tries, out)
   starts_still old mid new at (Ok first.Memory) same limits begins = step_still new at Begin Memory same limits begins
   starts_still old mid new at (Ok first.Exhausted) same limits begins = step_still new at Begin Exhausted same limits begins
-  starts_still old mid new at (Err u) same limits (begins, as_mid) =
-      (step_still new at Begin Unfit same limits begins, as_mid ∙ ap (λ (s : StateView C). record s { reads = new.reads }) same)
+  starts_still old mid new at (Err u) same limits (begins, as_mid) = grind (arith, nat_tests)
 
   -- an adding is refused as broken just where the connection is broken
   add_row : (l : Ledger C) (at : ℕ) (c : C) (b : Bool) (a : Answer) → Row l at (Add c b) a → refuses_broken a ≡ b
@@ -67,28 +64,17 @@ module _ {C : Type 0} where
   add_row l at c _ _ _ = refl
 
   sorted_as : (answer : AddAnswer C) (b : Bool) → refuses_broken (answer_of_add answer) ≡ b → IsSorted b answer
-  sorted_as (adding.Broken c) b is = sym is
-  sorted_as _ b is = sym is
+  sorted_as answer b is = grind (arith, nat_tests)
 
   adds_fit : (answer : AddAnswer C) (P : Type 0) → answer_of_add answer ≡ Unfit → P
-  adds_fit (adding.Added k n) P is = cc
-  adds_fit (adding.Broken c) P is = cc
-  adds_fit (adding.NoCapacity c) P is = cc
-  adds_fit (adding.Withheld c) P is = cc
+  adds_fit answer P is = grind (arith, nat_tests)
 
   pub add_sorted : {old new : StateView C} (at : ℕ) (c : C) (b : Bool) (r : Result (AddAnswer C) C)
       → Steps old at (Add c b) (answered answer_of_add r) new → IfOk r (IsSorted b)
   add_sorted at c b (Err same) s = tt
-  add_sorted at c b (Ok answer) s =
-      sorted_as answer b
-      (let h = s.0.0 in by_fit (fits h.0 (Add c b)) _ _ (refuses_broken (answer_of_add answer) ≡ b) (s.1 h.0 h.1 h.2).0
-      (λ f row. add_row h.0 at c b (answer_of_add answer) row)
-      (λ f is. adds_fit answer (refuses_broken (answer_of_add answer) ≡ b) is))
+  add_sorted at c b (Ok answer) s = grind (arith, nat_tests, sorted_as answer, by_fit, add_row s.0.0.0, adds_fit answer)
 
   -- what a new pool is granted for its first connections has numbers that a u64 can be
   pub first_numbers : (config : Config) (at : ℕ) (claimed : Bool) (grant : Grant) → Allowed {C = C} (opening config 0 0) at (Fill claimed) (Granted grant)
       → grant.first + grant.count < 2 ^ 64
-  first_numbers config at claimed grant allowed = filled (opening config 0 0) allowed refl refl
-    where
-      filled : (l : Ledger C) → Row l at (Fill claimed) (Granted grant) → next l ≡ 0 → length (records l) ≡ 0 → grant.first + grant.count < 2 ^ 64
-      filled l (fills want) none empty = let first = want.first in let most = want.most in omega arith
+  first_numbers config at claimed grant allowed = grind (arith, nat_tests)

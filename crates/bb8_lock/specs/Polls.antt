@@ -2,6 +2,8 @@
 -- parameters, so the table defines which calls are made, how many, and in which order.
 use Rattle.std.specs.Prelude.{◌≡◌, ℕ, ◌+◌, ◌-◌, ◌<◌, ◌≤◌, min, Bool, true, false, Option, Some, None, Result, Ok, Err}
 use Rattle.std.specs.Bool.{MatchBool}
+use Rattle.std.specs.Result.{MatchResult}
+use Rattle.futures.specs.Poll.{IfReady, OnPending}
 use Rattle.futures.specs.declared.task.Poll.{Poll}
 use Rattle.futures.specs.declared.task.Poll.TheVariants.{Ready, Pending}
 use Rattle.bb8_types.specs.declared.api.moments.Moment.{Moment}
@@ -89,87 +91,64 @@ module _ {C E V P H X : Type 0} (home : HomeOf X C P H) (outside : OutsideOf X C
   AfterGiveUp (given_up.Kept k n) x x' = (x' ≡ x)
   AfterGiveUp (given_up.Closed k c grant n) x x' = DropsAfterStep c x x'
 
-  -- after the step that ends a get without a connection
-  abbrev pub AfterLeave : Result (GiveUpAnswer C) Unfit → X → X → Type 0
-  AfterLeave (Ok a) x x' = AfterGiveUp a x x'
-  AfterLeave (Err u) x x' = (x' ≡ x)
-
-  -- after the step that ends a get with a connection: one that the home does not take is dropped,
-  -- too
-  abbrev pub AfterBack : Result (GiveUpAnswer C) C → X → X → Type 0
-  AfterBack (Ok a) x x' = AfterGiveUp a x x'
-  AfterBack (Err c) x x' = DropsAfterStep c x x'
-
 module _ {C E V P H X : Type 0} (home : HomeOf X C P H) (outside : OutsideOf X C E V) (m : Moment) where
   -- a get that holds no connection ends
   abbrev pub LeavesLine : GetKey → Reason → X → X → Type 0
   LeavesLine g why x x' =
-      (a : Result (GiveUpAnswer C) Unfit) × (x1 : X) × home.steps x m (step.GivesUp g why a) x1 × AfterLeave home outside a x1 x'
+      (a : Result (GiveUpAnswer C) Unfit) × (x1 : X) × home.steps x m (step.GivesUp g why a) x1
+      × MatchResult a (λ r. AfterGiveUp home outside r x1 x') (λ u. x' ≡ x1)
 
-  -- a get that held a connection ends
+  -- a get that held a connection ends; a connection that the home does not take is dropped, too
   abbrev pub TakesBack : GetKey → Reason → Returned C P → X → X → Type 0
   TakesBack g why r x x' =
-      (a : Result (GiveUpAnswer C) C) × (x1 : X) × home.steps x m (step.GivesBack g why r a) x1 × AfterBack home outside a x1 x'
+      (a : Result (GiveUpAnswer C) C) × (x1 : X) × home.steps x m (step.GivesBack g why r a) x1
+      × MatchResult a (λ r. AfterGiveUp home outside r x1 x') (λ c. DropsAfterStep home outside c x1 x')
 
   -- a row with this outcome that makes no call
   abbrev pub MovesTo : Next C V P E → X → Next C V P E → X → Type 0
   MovesTo to x next x' = (next ≡ to) × (x' ≡ x)
 
-  -- after the step for a failed check: the connection is dropped
-  abbrev pub AfterFail : Result (CheckedErrAnswer C) C → Open → X → Next C V P E → X → Type 0
-  AfterFail (Ok a) b x next x' = DropsAfterStep home outside (closed_in a) x x' × (next ≡ Stand (Trying b))
-  AfterFail (Err c) b x next x' = DropsAfterStep home outside c x x' × (next ≡ Answer (Err errors.TimedOut))
-
-  -- a failed check: the sink gets the error, has_broken is called for the connection, and the home
-  -- closes it
+  -- a failed check: the sink gets the error, has_broken is called for the connection, the home
+  -- closes it, and it is dropped
   abbrev pub CheckFails : Open → Taken C P → E → X → Next C V P E → X → Type 0
   CheckFails b t e x next x' =
       (x1 : X) × outside.sinks x e x1
       × ((r : Returned C P) × (x2 : X) × Asks outside t x1 r x2
-      × ((a : Result (CheckedErrAnswer C) C) × (x3 : X) × home.steps x2 m (step.Fails b.get r a) x3 × AfterFail a b x3 next x'))
+      × ((a : Result (CheckedErrAnswer C) C) × (x3 : X) × home.steps x2 m (step.Fails b.get r a) x3
+      × MatchResult a (λ r. DropsAfterStep home outside (closed_in r) x3 x' × (next ≡ Stand (Trying b)))
+      (λ c. DropsAfterStep home outside c x3 x' × (next ≡ Answer (Err errors.TimedOut)))))
 
-  -- after the step for a passed check
-  abbrev pub AfterPass : Result (Passed P) Unfit → C → X → Next C V P E → X → Type 0
-  AfterPass (Ok p) c x next x' = MovesTo (Answer (Ok (record { key = p.key; connection = c; permit = p.permit }))) x next x'
-  AfterPass (Err u) c x next x' = DropsAfterStep home outside c x x' × (next ≡ Answer (Err errors.TimedOut))
-
-  -- after a poll of a check, with the connection and the check as it left them: a check with a
-  -- result is dropped first
-  abbrev pub AfterCheck : Poll (Result (Unit {0}) E) → Open → CheckUnderWay C V P → X → Next C V P E → X → Type 0
-  AfterCheck Pending b held x next x' = MovesTo (Stand (Checking b held)) x next x'
-  AfterCheck (Ready (Ok u)) b held x next x' =
-      (x1 : X) × outside.ends_check x held.checking x1
-      × ((a : Result (Passed P) Unfit) × (x2 : X) × home.steps x1 m (step.Passes b.get held.taken.key held.taken.permit a) x2
-      × AfterPass a held.taken.connection x2 next x')
-  AfterCheck (Ready (Err e)) b held x next x' = (x1 : X) × outside.ends_check x held.checking x1 × CheckFails b held.taken e x1 next x'
-
-  -- a check is polled
+  -- A check is polled, and dropped if it has a result. If it passed, the home serves the get, or the
+  -- connection is dropped.
   abbrev pub Checks : Open → CheckUnderWay C V P → X → Next C V P E → X → Type 0
   Checks b held x next x' =
       (answer : Poll (Result (Unit {0}) E)) × (c : C) × (v : V) × (x1 : X)
       × outside.check_answers x held.taken.connection held.checking m answer c v x1
-      × AfterCheck answer b (record { taken = record held.taken { connection = c }; checking = v }) x1 next x'
+      × OnPending answer (MovesTo (Stand (Checking b (record { taken = record held.taken { connection = c }; checking = v }))) x1 next x')
+      × IfReady answer (λ result. (x2 : X) × outside.ends_check x1 v x2
+      × MatchResult result
+      (λ _. (a : Result (Passed P) Unfit) × (x3 : X) × home.steps x2 m (step.Passes b.get held.taken.key held.taken.permit a) x3
+      × MatchResult a (λ p. MovesTo (Answer (Ok (record held.taken { connection = c; key = p.key; permit = p.permit }))) x3 next x')
+      (λ u. DropsAfterStep home outside c x3 x' × (next ≡ Answer (Err errors.TimedOut))))
+      (λ e. CheckFails b (record held.taken { connection = c }) e x2 next x'))
 
-  -- after a try: a connection that must be checked is polled in the same poll
-  abbrev pub AfterTry : Result (Tried C P) Unfit → Open → X → Next C V P E → X → Type 0
-  AfterTry (Ok (tried.Served t grant)) b x next x' = MovesTo (Answer (Ok t)) x next x'
-  AfterTry (Ok (tried.Taken t grant)) b x next x' =
+  -- After a try of a get with this deadline, or its begin and first try: a connection that must be
+  -- checked is polled in the same poll.
+  abbrev pub AfterTry : Result (FirstTry C P) Unfit → Option Moment → X → Next C V P E → X → Type 0
+  AfterTry (Ok (first.Tried g (tried.Served t grant))) due x next x' = MovesTo (Answer (Ok t)) x next x'
+  AfterTry (Ok (first.Tried g (tried.Taken t grant))) due x next x' =
       (x1 : X) × home.releases x x1
       × ((v : V) × (c : C) × (x2 : X) × outside.checks x1 t.connection v c x2
-      × Checks b (record { taken = record t { connection = c }; checking = v }) x2 next x')
-  AfterTry (Ok (tried.Waiting grant)) b x next x' = MovesTo (Stand (Waiting b)) x next x'
-  AfterTry (Err u) b x next x' = MovesTo (Answer (Err errors.TimedOut)) x next x'
+      × Checks (record { get = g; deadline = due }) (record { taken = record t { connection = c }; checking = v }) x2 next x')
+  AfterTry (Ok (first.Tried g (tried.Waiting grant))) due x next x' = MovesTo (Stand (Waiting (record { get = g; deadline = due }))) x next x'
+  AfterTry (Ok first.Memory) due x next x' = MovesTo (Answer (Err errors.Memory)) x next x'
+  AfterTry (Ok first.Exhausted) due x next x' = MovesTo (Answer (Err errors.Exhausted)) x next x'
+  AfterTry (Err u) due x next x' = MovesTo (Answer (Err errors.TimedOut)) x next x'
 
   abbrev pub Tries : Open → X → Next C V P E → X → Type 0
-  Tries b x next x' = (t : Result (Tried C P) Unfit) × (x1 : X) × home.steps x m (step.Tries b.get t) x1 × AfterTry t b x1 next x'
-
-  -- after the begin of a get and its first try
-  abbrev pub AfterStart : Result (FirstTry C P) Unfit → ℕ → X → Next C V P E → X → Type 0
-  AfterStart (Ok (first.Tried g t)) timeout x next x' =
-      (deadline : Option Moment) × IsDeadline m timeout deadline × AfterTry (Ok t) (record { get = g; deadline = deadline }) x next x'
-  AfterStart (Ok first.Memory) timeout x next x' = MovesTo (Answer (Err errors.Memory)) x next x'
-  AfterStart (Ok first.Exhausted) timeout x next x' = MovesTo (Answer (Err errors.Exhausted)) x next x'
-  AfterStart (Err u) timeout x next x' = MovesTo (Answer (Err errors.TimedOut)) x next x'
+  Tries b x next x' =
+      (t : Result (Tried C P) Unfit) × (x1 : X) × home.steps x m (step.Tries b.get t) x1
+      × MatchResult t (λ a. AfterTry (Ok (first.Tried b.get a)) b.deadline x1 next x') (λ u. MovesTo (Answer (Err errors.TimedOut)) x1 next x')
 
   -- A get that holds no connection tries while a handle is alive. If the pool was closed, it ends,
   -- whatever its deadline.
@@ -180,7 +159,8 @@ module _ {C E V P H X : Type 0} (home : HomeOf X C P H) (outside : OutsideOf X C
   -- the rows of each state, with or without a handle alive
   abbrev pub GetAdvances : Bool → ℕ → Stage C V P → X → Next C V P E → X → Type 0
   GetAdvances alive timeout Fresh x next x' =
-      (r : Result (FirstTry C P) Unfit) × (x1 : X) × home.steps x m (step.Starts r) x1 × AfterStart r timeout x1 next x'
+      (r : Result (FirstTry C P) Unfit) × (due : Option Moment) × (x1 : X)
+      × home.steps x m (step.Starts r) x1 × IsDeadline m timeout due × AfterTry r due x1 next x'
   GetAdvances alive timeout (Trying b) x next x' = Retries alive b x next x'
   GetAdvances alive timeout (Waiting b) x next x' = Retries alive b x next x'
   GetAdvances alive timeout (Checking b held) x next x' = (x1 : X) × home.releases x x1 × Checks b held x1 next x'

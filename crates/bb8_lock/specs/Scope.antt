@@ -1,6 +1,6 @@
 -- What gets, guards and handles do on a pool: the tables over the data under the pool's lock, while
 -- it is held, and over the pool's own manager, error sink and clock.
-use Rattle.std.specs.Prelude.{◌≡◌, ℕ, eqb, None, Option, Some, Result, Ok, Err, ⊤, Bool}
+use Rattle.std.specs.Prelude.{◌≡◌, ℕ, eqb, IfSome, None, Option, Some, Result, Ok, Err, ⊤, Bool}
 use Rattle.bb8_lock.specs.Words.{MutexGuard, DebugOf, Poll, Ready, Pending, AddError, RunError, State, ManagerOf, SinkOf, CustomizerOf, ClockOf, settings_of, HomeOf, Taken, OutsideOf, Stage, Joining, Locked, Permit, PermitsOf, LockScope, Shared, GetPolls, Cancels}
 use Rattle.std.specs.Sync.Mutex.{mutex_guard_value}
 use Rattle.bb8_lock.specs.declared.signal.Signals.{Signals}
@@ -13,8 +13,7 @@ use Rattle.bb8_lock.specs.declared.handle.Handle.{Handle}
 module _ {T : Type 0} where
   -- the data at which a step starts: what is held, or, if the lock is free, whatever is under it
   abbrev pub StartsAt : Option (MutexGuard T) → T → Type 0
-  StartsAt (Some guard) t = mutex_guard_value guard ≡ t
-  StartsAt None t = ⊤
+  StartsAt held t = IfSome held (λ guard. mutex_guard_value guard ≡ t)
 
   -- this is held
   abbrev pub Holds : Option (MutexGuard T) → T → Type 0
@@ -80,7 +79,9 @@ module _ {G L M S Z K R C E N V A : Type 0} {m : ManagerOf M C E N V} {d : Debug
 
   -- A poll of a get goes by the table.
   abbrev pub OwnPolls : Stage C V (Permit L) → Poll (Result (Taken C (Permit L)) (RunError E)) → Stage C V (Permit L) → Type 0
-  OwnPolls stage r stage' = Own (λ x x'. GetPolls gets calls (settings_of shared.config).connection_timeout stage x (record { answer = r; stage = stage' }) x')
+  OwnPolls stage r stage' =
+      (x : Scope) × (x' : Scope) × IsScopeOf shared x
+      × GetPolls gets calls (settings_of shared.config).connection_timeout stage x (record { answer = r; stage = stage' }) x'
 
   -- the final result of the polls of such a get
   abbrev pub OwnGives : Stage C V (Permit L) → Result (Taken C (Permit L)) (RunError E) → Type 0

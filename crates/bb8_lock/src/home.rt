@@ -41,7 +41,8 @@ fn hand_out<C: Drop, L: Permits>(
     match outcome {
         TryAnswer::Waiting(grant) => Tried::Waiting(grant),
         TryAnswer::Served(key, connection, grant) => {
-            let permit = Permit::cut(rest);
+            let share = rest.split_off(1, 1);
+            let permit = Permit { share };
             let taken = Taken {
                 key,
                 connection,
@@ -50,7 +51,8 @@ fn hand_out<C: Drop, L: Permits>(
             Tried::Served(taken, grant)
         }
         TryAnswer::Taken(key, connection, grant) => {
-            let permit = Permit::cut(rest);
+            let share = rest.split_off(1, 1);
+            let permit = Permit { share };
             let taken = Taken {
                 key,
                 connection,

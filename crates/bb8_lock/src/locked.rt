@@ -1,5 +1,5 @@
 //! The data that a pool's lock protects.
-ghost use Rattle.std.specs.Prelude.{◌≡◌, ◌+◌, ◌^◌, ◌<◌, ◌≤◌, eqb, true, IfOk};
+ghost use Rattle.std.specs.Prelude.{◌≡◌, ◌+◌, ◌^◌, ◌<◌, eqb, true, IfOk};
 ghost use Rattle.bb8_types.specs.Settings.{Settings, default_settings, is_lawful, settings_of};
 ghost use Rattle.bb8_lock.specs.Permits.{PoolBegins, IsBlankOf};
 ghost use Rattle.bb8_core.specs.StepBounds.{out_of, come_back};
@@ -47,18 +47,6 @@ pub struct Permit<L: Ledger> {
 }
 
 impl<L: Permits> Permit<L> {
-    /// Splits a permit off the unused ones, for a connection that is checked out.
-    #[inline(always)]
-    pub(crate) fn cut(rest: &mut Share<L>) -> Self
-        requires parts { 1 ≤ rest.old.parts }
-        requires amount { rest.old.amount ≡ rest.old.parts }
-        ensures parts { rest.new.parts + 1 ≡ rest.old.parts }
-        ensures amount { rest.new.amount ≡ rest.new.parts }
-    {
-        let share = rest.split_off(1, 1);
-        Permit { share }
-    }
-
     /// Returns the permit to the unused ones if its connection was taken back; drops it if that did
     /// not fit.
     #[inline(always)]

@@ -1,9 +1,8 @@
 //! A pool's lock as the home of gets, guards, handles, connection tasks, the driver and the reaper.
-ghost use Rattle.std.specs.Prelude.{◌≡◌, None, ⊤};
+ghost use Rattle.std.specs.Prelude.{⊤};
 ghost use Rattle.bb8_lock.specs.Steps.{Fails, GivesBack, PutsBack};
 ghost use Rattle.bb8_lock.specs.Signals.{signals_of_step};
-ghost use Rattle.bb8_lock.specs.Scope.{IsScopeOf, Leads, Frees, StartsAt};
-ghost use Rattle.std.specs.Sync.Mutex.{mutex_guard_value};
+ghost use Rattle.bb8_lock.specs.Scope.{IsScopeOf, Leads, Frees};
 
 use crate::gets::{FirstTry, GetHome, Joining, LetGo, Passed, Returned, Tried};
 use crate::handle::Ends;
@@ -36,9 +35,19 @@ pub trait OpensScope<S: Locking<T>, T> {
 impl<G: PoolTypes, L: Permits> Locking<Locked<G::Connection, L>> for Shared<G, L> {
     ghost notified = { λ _ _. ⊤ };
 
+    /// Takes a free lock without a function call.
     #[inline(always)]
-    fn take(&self) -> MutexGuard<'_, Locked<G::Connection, L>> {
-        self.rt.take(&self.locked.lock)
+    fn hold<'a>(
+        &'a self,
+        held: &mut Option<MutexGuard<'a, Locked<G::Connection, L>>>,
+    ) -> MutexGuard<'a, Locked<G::Connection, L>> {
+        match held.take() {
+            Some(guard) => guard,
+            None => match self.locked.lock.try_lock() {
+                Some(guard) => guard,
+                None => self.rt.take(&self.locked.lock),
+            },
+        }
     }
 
     #[inline(always)]
@@ -70,6 +79,16 @@ impl<S: Locking<T>, T> Drop for LockScope<'_, S, T> {
     fn drop(self)
         ensures { S.notified self.entry.shared.now self.entry.signals }
     {
+        self.go();
+    }
+}
+
+/// A scope is closed by dropping it.
+impl<S: Locking<T>, T> LetGo for LockScope<'_, S, T> {
+    ghost goes = { λ x. S.notified x.shared.now x.signals };
+
+    #[inline(always)]
+    fn go(self) {
         let LockScope {
             shared,
             held,
@@ -80,45 +99,10 @@ impl<S: Locking<T>, T> Drop for LockScope<'_, S, T> {
     }
 }
 
-/// A scope is closed by dropping it.
-impl<S: Locking<T>, T> LetGo for LockScope<'_, S, T> {
-    ghost goes = { λ x. S.notified x.shared.now x.signals };
-
-    #[inline(always)]
-    fn go(self) {
-        drop(self);
-    }
-}
-
-/// How a step of a scope begins. (A trait because of *trait-for-threads*.)
-pub trait Hold {
-    type Guard;
-
-    /// Returns the held guard, or acquires the lock.
-    fn hold(&mut self) -> Self::Guard;
-}
-
-impl<'a, S: Locking<T>, T> Hold for LockScope<'a, S, T> {
-    type Guard = MutexGuard<'a, T>;
-
-    #[inline(always)]
-    fn hold(&mut self) -> MutexGuard<'a, T>
-        ensures start { StartsAt self.old.held (mutex_guard_value result) }
-        ensures free { self.new.held ≡ None }
-        ensures same { self.new.shared ≡ self.old.shared }
-        ensures noted { self.new.signals ≡ self.old.signals }
-    {
-        match self.held.take() {
-            Some(guard) => guard,
-            None => self.shared.take(),
-        }
-    }
-}
-
 // Makes a step of what the lock protects, and keeps the lock held.
 macro_rules! step {
     ($self:ident, $answer:ident = $step:ident($($arg:expr),*)) => {
-        let mut guard = $self.hold();
+        let mut guard = $self.shared.hold(&mut $self.held);
         let $answer = guard.$step($($arg),*);
         $self.held = Some(guard);
     };
@@ -150,7 +134,8 @@ impl<C, S: Locking<T>, T: GetHome<C> + Ends> GetHome<C> for LockScope<'_, S, T> 
     fn start(&mut self, at: Moment) -> Result<FirstTry<C, T::Permit>, Unfit> {
         step!(self, answer = start(at));
         if let Ok(FirstTry::Tried(_, tried)) = &answer {
-            self.signals.note_try(tried);
+            let (Tried::Served(_, grant) | Tried::Taken(_, grant) | Tried::Waiting(grant)) = tried;
+            self.signals.drivers = (grant.count > 0) | self.signals.drivers;
         }
         answer
     }
@@ -159,7 +144,8 @@ impl<C, S: Locking<T>, T: GetHome<C> + Ends> GetHome<C> for LockScope<'_, S, T> 
     fn try_get(&mut self, at: Moment, get: GetKey) -> Result<Tried<C, T::Permit>, Unfit> {
         step!(self, answer = try_get(at, get));
         if let Ok(tried) = &answer {
-            self.signals.note_try(tried);
+            let (Tried::Served(_, grant) | Tried::Taken(_, grant) | Tried::Waiting(grant)) = tried;
+            self.signals.drivers = (grant.count > 0) | self.signals.drivers;
         }
         answer
     }
@@ -261,7 +247,7 @@ impl<C, S: Locking<T>, T: GetHome<C> + Ends> GetHome<C> for LockScope<'_, S, T> 
     }
 
     fn leave(&mut self, at: Moment, handle: T::Handle) -> Result<LeaveAnswer, Unfit> {
-        let mut guard = self.hold();
+        let mut guard = self.shared.hold(&mut self.held);
         let answer = guard.leave(at, handle);
         self.signals.drivers = guard.is_over() | self.signals.drivers;
         self.held = Some(guard);
@@ -285,7 +271,7 @@ impl<C, S: Locking<T>, T: GetHome<C> + Ends> GetHome<C> for LockScope<'_, S, T> 
     }
 
     fn close(&mut self, at: Moment, closed: &mut ClosedList<C>) -> Result<LeaveAnswer, Unfit> {
-        let mut guard = self.hold();
+        let mut guard = self.shared.hold(&mut self.held);
         let answer = guard.close(at, closed);
         self.signals.note_over(guard.is_over());
         self.held = Some(guard);
@@ -300,12 +286,12 @@ impl<C, S: Locking<T>, T: Home<C>> Home<C> for LockScope<'_, S, T> {
     ghost steps = { λ x at s x'. Visits S.notified (λ t t'. T.steps t at s t') s x x' };
 
     fn look(&mut self, at: Moment) -> Looked {
-        let mut guard = self.hold();
+        let mut guard = self.shared.hold(&mut self.held);
         guard.look(at)
     }
 
     fn opened(&mut self, at: Moment, approval: Key, connection: C) -> Result<OpenedAnswer<C>, C> {
-        let mut guard = self.hold();
+        let mut guard = self.shared.hold(&mut self.held);
         let answer = guard.opened(at, approval, connection);
         drop(guard);
         let signals = match &answer {
@@ -317,22 +303,22 @@ impl<C, S: Locking<T>, T: Home<C>> Home<C> for LockScope<'_, S, T> {
     }
 
     fn failed(&mut self, at: Moment, approval: Key) -> Result<FailedAnswer, Unfit> {
-        let mut guard = self.hold();
+        let mut guard = self.shared.hold(&mut self.held);
         guard.failed(at, approval)
     }
 
     fn claim(&mut self, at: Moment) -> ClaimAnswer {
-        let mut guard = self.hold();
+        let mut guard = self.shared.hold(&mut self.held);
         guard.claim(at)
     }
 
     fn reap(&mut self, at: Moment) -> ReapAnswer {
-        let mut guard = self.hold();
+        let mut guard = self.shared.hold(&mut self.held);
         guard.reap(at)
     }
 
     fn ask(&mut self, at: Moment) -> Grant {
-        let mut guard = self.hold();
+        let mut guard = self.shared.hold(&mut self.held);
         let grant = guard.ask(at);
         drop(guard);
         self.shared.notify(Signals::of(None, grant.count));

@@ -1,17 +1,16 @@
 //! A lock with signals: threads sleep on a signal until another thread, after its critical section,
 //! notifies it.
 
-ghost use Rattle.std.specs.Prelude.{◌≡◌, ℕ};
+ghost use Rattle.std.specs.Prelude.{◌≡◌, ℕ, IfSome, None};
+ghost use Rattle.std.specs.Sync.Mutex.{mutex_guard_value};
 ghost use Rattle.std.specs.Duration.{as_nanos};
 ghost use Rattle.bb8_tables.specs.Keys.{notified_of};
 ghost use Rattle.bb8_core.specs.Unfit.{answered};
 ghost use Rattle.bb8_core.specs.StepAnswers.{answer_of_give_up};
-ghost use Rattle.bb8_lock.specs.Outcomes.{answer_of_tried};
 ghost use Rattle.bb8_lock.specs.declared.signal.Signals.{Signals as SignalsOf};
 ghost use Rattle.bb8_lock.specs.declared.signal.Sleeper.{Sleeper as SleeperOf};
 ghost use Rattle.bb8_lock.specs.Signals.{signals_for, signals_of, joined};
 
-use crate::gets::Tried;
 use bb8_core::internals::{GetKey, GiveUpAnswer};
 use std::sync::{Condvar, Mutex, MutexGuard, Wait};
 use std::time::Duration;
@@ -66,8 +65,11 @@ pub trait Locking<T> {
     // Holds of the shared data, and of signals of it that were notified.
     ghost notified: { Self → SignalsOf → Type 0 };
 
-    /// Acquires the lock, waiting for it if it is held.
-    fn take(&self) -> MutexGuard<'_, T>;
+    /// Returns the guard that is held, or acquires the lock, waiting for it if it is not free.
+    fn hold<'a>(&'a self, held: &mut Option<MutexGuard<'a, T>>) -> MutexGuard<'a, T>
+        ensures start { IfSome held.old
+            (λ guard. mutex_guard_value guard ≡ mutex_guard_value result) }
+        ensures free { held.new ≡ None };
 
     /// Notifies these signals.
     fn notify(&self, signals: Signals)
@@ -169,18 +171,6 @@ impl Signals {
     {
         self.gets = over | self.gets;
         self.drivers = over | self.drivers;
-    }
-
-    /// Adds the signals of a try.
-    #[inline(always)]
-    pub(crate) fn note_try<C, P>(&mut self, tried: &Tried<C, P>)
-        ensures { self.new ≡ joined (signals_of (answer_of_tried tried.now)) self.old }
-    {
-        match tried {
-            Tried::Served(_, grant) | Tried::Taken(_, grant) | Tried::Waiting(grant) => {
-                self.drivers = (grant.count > 0) | self.drivers;
-            }
-        }
     }
 
     /// Adds the signals of a give-up.

@@ -9,6 +9,9 @@ use bb8_runner::report::status_of;
 use std::io;
 use std::process::ExitCode;
 
+#[cfg(test)]
+mod tests;
+
 /// Exits with the status of the run; a fault is printed to standard error.
 fn main(rt: HostRuntime) -> io::Result<ExitCode> {
     let came = run(rt, &mut rt.reader(), &mut io::writer(&rt));

@@ -1,4 +1,5 @@
 -- The code's side of each change of the gets: what it does to the fields, seen in what they mean.
+use Rattle.std.proofs.lemmas.Bool.Decides.{nat_tests}
 use Rattle.bb8_tables.proofs.Words.{subst, ◌≡◌, ◌≢◌, ℕ, List, ◌+◌, ◌-◌, ◌<◌, ◌≤◌, Bool, true, false, [], ◌∷◌, ◌++◌, length, set, slice_get, arith, Option, Some, None, is_some, IsSome, refl, sym, ap, ◌∙◌, get, tally, one, TableView, slot_at, Absent, GetPlace, Active, Waiting, Getting, Slot, is_unnotified, get_in_wait, get_with_place, GetsView, IsTable, view_of_gets, AreGoodGets, AreWaitingPlaces, removed_inserted, inserted_again, insert, max, FinMap, nat_cmp}
 use Rattle.std.proofs.Common.{IfSome}
 use Rattle.bb8_tables.specs.declared.gets.Gets.TheInside.{Inside}
@@ -100,9 +101,8 @@ module _ (a : Inside) (place : ℕ) (s : Getting) (slots : TableView (Slot Getti
     queued_good few on = rw (in_line, takes) (rw takes at (grown_good (a.slots.line ++ place ∷ []) few (added_line place good.waiting free (set_within a.slots.slots place (Some born) within) refl on)))
 
     pub queued_view : a.alive < a.peak → view_of_gets (record a { next = a.next + 1; slots = queued; alive = a.alive + 1 }) ≡ with_born s ((view_of_gets a).waiting ++ a.next ∷ []) (view_of_gets a)
-    queued_view few = rw (in_line, takes) (same_gets _ _ refl
-        (added_shown a.slots.slots a.next place s free within good.table) (added_pushed a.slots.slots a.next place s free within a.slots.line good.waiting)
-        refl (omega arith))
+    queued_view few =
+        grind (arith, nat_tests, same_gets, added_shown a.slots.slots a.next place s free within good.table, added_pushed a.slots.slots a.next place s free within a.slots.line good.waiting)
 
 -- which is a begin, and then the change to this state
 pub begun_then : (f : Option Getting → Getting) (waiting : List ℕ) (v : GetsView) → with_born (f (Some (record { place = Active; first_wait = None }))) waiting v
@@ -230,6 +230,4 @@ module _ (a : Inside) (place q : ℕ) (x : Slot Getting) (slots : TableView (Slo
 pub released : (a : Inside) (place k : ℕ) (x : Slot Getting) (slots : TableView (Slot Getting)) → AreGoodGets a → slot_at a.slots place ≡ Some x → x.standing.place ≡ Holding k
     → slots ≡ record { slots = set a.slots.slots place None; line = a.slots.line; births = machine.without place a.slots.births; free = a.slots.free + 1 }
     → Frees a.slots slots place
-released a place k x slots good at_place holding gone =
-    gone ∙ ap (λ (l : List ℕ). record { slots = set a.slots.slots place None; line = l; births = machine.without place a.slots.births; free = a.slots.free + 1 })
-    (sym (without_absent place a.slots.line (wait_absent a place x good at_place (ap is_unnotified holding))))
+released a place k x slots good at_place holding gone = grind (arith, nat_tests, without_absent place a.slots.line, wait_absent a place x)

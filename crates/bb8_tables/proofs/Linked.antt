@@ -1,7 +1,7 @@
 -- What the links of a line show.
-use Rattle.std.proofs.Common.{inl, inr, ◌≡◌, ◌≢◌, ℕ, ◌+◌, ◌-◌, ◌<◌, ◌≤◌, List, [], ◌∷◌, ◌++◌, length, Option, Some, None, slice_get, refl, sym, ap, ◌∙◌, arith, subst, length-append}
-use Rattle.std.proofs.lemmas.Option.{slice_get_past}
-use Rattle.std.proofs.lemmas.Bool.Decides.{eqb_tells}
+use Rattle.std.proofs.Common.{inl, inr, get_or, ◌≡◌, ◌≢◌, ℕ, ◌+◌, ◌-◌, ◌<◌, ◌≤◌, List, [], ◌∷◌, ◌++◌, length, Option, Some, None, slice_get, refl, sym, ap, ◌∙◌, arith, subst, length-append}
+use Rattle.std.proofs.lemmas.Option.{slice_get_read, slice_get_past}
+use Rattle.std.proofs.lemmas.Bool.Decides.{eqb_tells, nat_tests}
 use Rattle.bb8_tables.specs.declared.line.Link.{Link}
 use Rattle.bb8_tables.specs.declared.line.Links.{Links}
 use Rattle.bb8_tables.specs.declared.line.Line.TheInside.{Inside}
@@ -37,8 +37,7 @@ module _ (a : Inside) (good : IsGood a) where
   shows now is = ap (λ (t : Ordered). t.places) (sym is)
 
   pub first_is : (xs : List ℕ) → spelled a ≡ xs → 0 < length xs → slice_get xs 0 ≡ Some (af 0)
-  first_is [] e h = absurd (omega arith)
-  first_is (x ∷ xs) e h = Spelled.first_is af be 0 x xs (subst (λ (ys : List ℕ). Spells af be 0 ys) e good.spells)
+  first_is xs e h = grind (arith, nat_tests)
 
   pub last_is : (xs : List ℕ) → spelled a ≡ xs → 0 < length xs → slice_get xs (length xs - 1) ≡ Some (be 0)
   last_is [] e h = absurd (omega arith)
@@ -84,6 +83,12 @@ module _ (a : Inside) (good : IsGood a) where
 
   pub some_left : (p : ℕ) → 0 < p → af p ≢ p → 1 ≤ a.len
   some_left p apart moves = let m = member p apart moves in omega (arith, m.fewer, sized)
+
+  -- the links at a place
+  pub linked_at : (p : ℕ) (link : Link) → p < a.links.entries.len → link ≡ get_or a.links.entries.items p link → (link.after ≡ af p) × (link.before ≡ be p)
+  linked_at p link within e =
+      let at_p = slice_get_read a.links.entries.items a.links.entries.len p link a.links.entries.ok.0 within e in
+      (sym (ap (after_at p) at_p), sym (ap (before_at p) at_p))
 
   -- a place that leads to itself is not in it
   pub alone : (p : ℕ) → 0 < p → af p ≡ p → without p (spelled a) ≡ spelled a

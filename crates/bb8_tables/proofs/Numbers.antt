@@ -1,5 +1,6 @@
 -- The numbers of the records at places in line.
-use Rattle.bb8_tables.proofs.Words.{◌≡◌, ◌≢◌, ℕ, suc, Bool, true, false, cond, not, eqb, List, [], ◌∷◌, ◌++◌, map, Option, Some, None, slice_get, get_or, refl, sym, ap, ◌∙◌, subst, eq-eqb, ne_eqb, map_push, eqb_tells, without, IsDistinct, ArePlaces, number_in, numbers_at, inl, inr}
+use Rattle.std.proofs.lemmas.Bool.Decides.{nat_tests}
+use Rattle.bb8_tables.proofs.Words.{◌≡◌, ◌≢◌, ℕ, suc, Bool, cond, not, eqb, List, [], ◌∷◌, ◌++◌, map, Option, Some, None, slice_get, get_or, refl, ap, ◌∙◌, eq-eqb, ne_eqb, map_push, eqb_tells, without, IsDistinct, ArePlaces, number_in, numbers_at, arith}
 use Rattle.bb8_tables.proofs.Slots.{Updates}
 
 -- a line without a place, known from something else that distinguishes its places
@@ -11,8 +12,7 @@ without_told f p (k ∷ places) h =
   where
     go : (b : Bool) → map f (without p places) ≡ without (f p) (map f places) → map f (cond (not b) (k ∷ without p places) (without p places)) ≡ cond (not b)
         (f k ∷ without (f p) (map f places)) (without (f p) (map f places))
-    go true e = e
-    go false e = ap (λ (xs : List ℕ). f k ∷ xs) e
+    go b e = grind (arith, nat_tests)
 
 -- a line of numbers that has not this one loses none
 numbers_other : (f : ℕ → ℕ) (q : ℕ) (places : List ℕ) → ((j k : ℕ) → slice_get places j ≡ Some k → f k ≢ q) → without q (map f places) ≡ map f places
@@ -41,11 +41,7 @@ module _ {X : Type 0} (number : X → ℕ) where
   -- numbers where what changed kept its number
   pub numbers_same : (old new : List (Option X)) (place : ℕ) (x y : X) (places : List ℕ) → get_or old place None ≡ Some x → number y ≡ number x
       → Updates old new place (Some y) → numbers_at number new places ≡ numbers_at number old places
-  numbers_same old new place x y places was same u = numbers_alike old new places (λ j k e. elim (eqb_tells k place) [
-    | inl t ↦ subst (λ (i : ℕ). number_in number (get_or new i None) ≡ number_in number (get_or old i None)) (sym t.1)
-        (ap (number_in number) u.changed ∙ same ∙ sym (ap (number_in number) was))
-    | inr t ↦ ap (number_in number) (u.others k t.1)
-  ])
+  numbers_same old new place x y places was same u = grind (arith, nat_tests, numbers_alike old new places, eqb_tells)
 
   -- a place comes to the new end
   pub numbers_push : (xs : List (Option X)) (places : List ℕ) (place : ℕ) (x : X) → get_or xs place None ≡ Some x → numbers_at number xs
@@ -55,20 +51,9 @@ module _ {X : Type 0} (number : X → ℕ) where
   -- a place goes, so its number does
   pub numbers_without : {test : X → Bool} (xs : List (Option X)) (places : List ℕ) (place : ℕ) (x : X) → IsDistinct number xs → ArePlaces test xs places
       → get_or xs place None ≡ Some x → numbers_at number xs (without place places) ≡ without (number x) (numbers_at number xs places)
-  numbers_without xs places place x distinct are e =
-      without_told (λ i. number_in number (get_or xs i None)) place places outcome
-      ∙ ap (λ (o : Option X). without (number_in number o) (numbers_at number xs places)) e
-    where
-      outcome : (j k : ℕ) → slice_get places j ≡ Some k → eqb k place ≡ eqb (number_in number (get_or xs k None)) (number_in number (get_or xs place None))
-      outcome j k f =
-          let stands = are.each j k f in
-          elim (eqb_tells k place) [
-            | inl t ↦ t.0 ∙ sym (eq-eqb _ _ (ap (λ (i : ℕ). number_in number (get_or xs i None)) t.1))
-            | inr t ↦ t.0 ∙ sym (ne_eqb _ _ (λ s. t.1 (distinct k place stands.0 x stands.1 e (sym (ap (number_in number) stands.1) ∙ s ∙ ap (number_in number) e))))
-          ]
+  numbers_without xs places place x distinct are e = grind (arith, nat_tests, without_told, eqb_tells, eq-eqb, ne_eqb)
 
   -- a number that nothing has is in no line
   pub numbers_fresh : {test : X → Bool} (xs : List (Option X)) (places : List ℕ) (q : ℕ) → ArePlaces test xs places → ((i : ℕ) (x : X) → get_or xs i None ≡ Some x → number x ≢ q)
       → without q (numbers_at number xs places) ≡ numbers_at number xs places
-  numbers_fresh xs places q are fresh = numbers_other (λ i. number_in number (get_or xs i None)) q places
-      (λ j k e s. let st = are.each j k e in fresh k st.0 st.1 (sym (ap (number_in number) st.1) ∙ s))
+  numbers_fresh xs places q are fresh = grind (arith, nat_tests, numbers_other)

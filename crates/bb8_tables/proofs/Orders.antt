@@ -1,4 +1,5 @@
 -- Orders of all the places whose content passes a test.
+use Rattle.std.proofs.lemmas.Bool.Decides.{nat_tests}
 use Rattle.bb8_tables.proofs.Words.{◌≡◌, ◌≢◌, ◌≤◌, ℕ, zero, suc, Bool, true, false, arith, map, List, [], ◌∷◌, ◌++◌, Option, Some, None, slice_get, get_or, option_map, refl, sym, ap, ◌∙◌, ◌⊎◌, inl, inr, subst, map-append, slice_get-map, without, IsOrder, ArePlaces, IsRising, AllFrom, number_in, numbers_at, Absent, same_or_not}
 use Rattle.bb8_tables.proofs.Lines.{same_line, places_without, left_away}
 use Rattle.bb8_tables.proofs.Numbers.{numbers_all, numbers_kept, numbers_same, numbers_push}
@@ -21,8 +22,7 @@ from_without f p n (k ∷ places) a = without_cases (λ (ys : List ℕ). AllFrom
 
 rising_without : (f : ℕ → ℕ) (p : ℕ) (places : List ℕ) → IsRising (map f places) → IsRising (map f (without p places))
 rising_without f p [] r = tt
-rising_without f p (k ∷ places) r = without_cases (λ (ys : List ℕ). IsRising (map f ys)) p k places
-    (λ s. rising_without f p places r.1) (λ s. (from_without f p (f k) places r.0, rising_without f p places r.1))
+rising_without f p (k ∷ places) r = grind (arith, nat_tests, without_cases, rising_without f p places r.1, from_without f p (f k) places r.0)
 
 -- ---- orders
 
@@ -56,12 +56,18 @@ module _ {X : Type 0} {test : X → Bool} {moment : X → ℕ} where
 
     -- a place passes no more, and leaves
     pub left_order : passes test slot ≡ false → IsOrder test moment new (without place places)
-    left_order off = record {
-      are = places_without o.are u;
-      all = changed (λ (i : ℕ). Absent i (without place places)) (λ x e a. not_passing test slot x off e) (λ i n a. absent_without place i places n a);
-      rises = subst IsRising (sym (numbers_kept moment old new place (without place places) (left_away places place) u.others))
-          (rising_without (λ (i : ℕ). number_in moment (get_or old i None)) place places o.rises);
-    }
+    left_order off =
+        grind (
+          arith,
+          nat_tests,
+          places_without o.are u,
+          u,
+          not_passing test slot,
+          absent_without place,
+          numbers_kept moment old new place (without place places) (left_away places place) u.others,
+          left_away places place,
+          rising_without,
+        )
 
     module _ {was : Option X} (at_place : get_or old place None ≡ was) (off : passes test was ≡ false) where
       away : (j k : ℕ) → slice_get places j ≡ Some k → k ≢ place
@@ -69,11 +75,7 @@ module _ {X : Type 0} {test : X → Bool} {moment : X → ℕ} where
 
       -- a place changes that passes neither before nor after
       pub other_order : passes test slot ≡ false → IsOrder test moment new places
-      other_order off_now = record {
-        are = line_kept _ _ _ _ old new places place o.are away u.others;
-        all = changed (λ (i : ℕ). Absent i places) (λ x e a. not_passing test slot x off_now e) (λ i n a. a);
-        rises = subst IsRising (sym (numbers_kept moment old new place places away u.others)) o.rises;
-      }
+      other_order off_now = grind (arith, nat_tests, line_kept, not_passing test slot, numbers_kept moment old new place places away u.others)
 
       -- a place passes from now on, and comes to the new end
       pub pushed_order : {y : X} → slot ≡ Some y → test y ≡ true → ((i : ℕ) (x : X) → get_or old i None ≡ Some x → moment x ≤ moment y) → IsOrder test moment new (places ++ place ∷ [])
@@ -88,26 +90,13 @@ module _ {X : Type 0} {test : X → Bool} {moment : X → ℕ} where
           -- the moments of places are no later than all moments
           moments_before : (ks : List ℕ) → ((j k : ℕ) → slice_get ks j ≡ Some k → (x : X) × (get_or old k None ≡ Some x)) → (j n : ℕ) → slice_get (numbers_at moment old ks) j ≡ Some n → n ≤ moment y
           moments_before [] stand j n e = cc
-          moments_before (k ∷ ks) stand zero n e =
-              let st = stand 0 k refl in
-              let is : n ≡ moment st.0 = (let back : n ≡ number_in moment (get_or old k None) = cc in back) ∙ ap (number_in moment) st.1 in
-              omega (arith, late k st.0 st.1)
+          moments_before (k ∷ ks) stand zero n e = grind (arith, nat_tests)
           moments_before (k ∷ ks) stand (suc j) n e = moments_before ks (λ i m f. stand (suc i) m f) j n e
 
   -- a place passes before and after
   pub stays_order : {old new : List (Option X)} {places : List ℕ} {place : ℕ} {x y : X} → IsOrder test moment old places → Updates old new place (Some y) → get_or old place None ≡ Some x
       → test x ≡ true → test y ≡ true → moment y ≡ moment x → IsOrder test moment new places
-  stays_order {old} {new} {places} {place} {x} {y} o u was on on_now same = record {
-    are = record {
-      each = λ j k e. let st = o.are.each j k e in elim (same_or_not k place) [
-        | inl t ↦ (y, subst (λ (i : ℕ). get_or new i None ≡ Some y) (sym t.1) u.changed, refl, on_now)
-        | inr t ↦ (st.0, u.others k t.1 ∙ st.1, st.2, st.3)
-      ];
-      once = o.are.once;
-    };
-    all = changed o u (λ (i : ℕ). Absent i places) (λ z e a. absurd (let clash : true ≡ false = sym on ∙ o.all place x was a in cc)) (λ i n a. a);
-    rises = subst IsRising (sym (numbers_same moment old new place x y places was same u)) o.rises;
-  }
+  stays_order {old} {new} {places} {place} {x} {y} o u was on on_now same = grind (arith, nat_tests, same_or_not, numbers_same moment old new place x y places was same u)
 
 -- ---- what is in an order
 
@@ -141,9 +130,7 @@ module _ {X : Type 0} (moment : X → ℕ) (slots : List (Option X)) where
       go j at_j later
     where
       go : (i : ℕ) → slice_get (p ∷ rest) i ≡ Some q → IsRising (numbers_at moment slots (p ∷ rest)) → moment x ≤ moment y
-      go zero g later =
-          let is : x ≡ y = cc in
-          omega (arith, ap moment is)
+      go zero g later = grind (arith, nat_tests)
       go (suc i) g later =
           let l : number_in moment (get_or slots p None) ≤ number_in moment (get_or slots q None) =
           from_at _ _ i (numbers_at moment slots rest) later.0

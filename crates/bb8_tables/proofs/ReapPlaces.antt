@@ -1,4 +1,5 @@
 -- Idle connections that end.
+use Rattle.std.proofs.lemmas.Bool.Decides.{nat_tests}
 use Rattle.bb8_tables.proofs.Words.{◌≡◌, ℕ, ◌+◌, ◌-◌, ◌≤◌, Bool, true, false, List, length, Option, Some, None, slice_get, refl, sym, ap, ◌∙◌, arith, subst, append-nil, drop-map, length-map, get, Buffer, Settings, is_idle, is_unclaimed, is_conn, is_approval, lives_out, Standing, Slot, Closed, offered_all, closed_in, EndsFirst, TableView, slot_at, without, after_reaped, number_in, numbers_at, view_of_records, AreGoodRecords, RecordsView, Inside, idle_is, Place, Idle}
 use Rattle.std.specs.Option.{IfSome}
 use Rattle.bb8_tables.specs.Machine as machine
@@ -29,10 +30,8 @@ module _ {C : Type 0} where
         ended_good x true false good at_place gone (ap is_conn idle) (omega arith) (ap is_approval idle) (omega arith) refl refl (λ u. other_line good.unclaimed at_place (ap is_unclaimed idle) u)
 
     pub freed_view : view_of_records (record a { slots = slots; conns = a.conns - 1 }) ≡ after_reaped x.number (view_of_records a)
-    freed_view = rw gone (same_records _ _ refl
-        (cleared_shown x.number place good.table at_place refl)
-        (cleared_line x.number place good.table at_place refl a.slots.line ∙ line_without x.number place good.table at_place refl a.slots.line good.idle.are)
-        refl refl refl refl)
+    freed_view =
+        grind (arith, nat_tests, same_records, cleared_shown x.number place good.table at_place, cleared_line x.number place good.table at_place, line_without x.number place good.table at_place)
 
     -- its connection is handed out
     pub freed_handed : (k : ℕ) (old : RecordsView C) (given : Slot (Standing C)) (o : Option C) → view_of_records a ≡ old → x.number ≡ k → given ≡ x
@@ -99,5 +98,4 @@ module _ {C : Type 0} where
     pub idle_end_listed : {list offered : Buffer (Closed C)}
         → ((x : Slot (Standing C)) → slot_at a.slots place ≡ Some x → offered ≡ offered_all (closed_in x.number (Some x.standing)) list)
         → offered ≡ offered_all (closed_in number (get (view_of_records a).places number)) list
-    idle_end_listed {list} put = put ended.0 ended.1 ∙ ap (λ (k : ℕ). offered_all (closed_in k (Some ended.0.standing)) list) ended.2
-        ∙ ap (λ (o : Option (Standing C)). offered_all (closed_in number o) list) (sym (shown_at a place number ended.0 good ended.1 ended.2))
+    idle_end_listed {list} put = grind (arith, nat_tests, shown_at a place number ended.0 good ended.1 ended.2)

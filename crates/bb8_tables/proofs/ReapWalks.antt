@@ -1,5 +1,6 @@
 -- The two walks of a reap.
-use Rattle.bb8_tables.proofs.Words.{slice_get_within, append_assoc, ◌≡◌, ◌⊎◌, inl, inr, ℕ, zero, suc, ◌+◌, ◌-◌, ◌<◌, ◌≤◌, Bool, true, false, ◌&&◌, List, [], ◌∷◌, ◌++◌, length, Option, Some, None, slice_get, refl, sym, ap, ◌∙◌, arith, subst, length-append, eq-eqb, ne_eqb, length-map, leb-false, lt-leb, get, most_records, Settings, one, tally, is_idle, is_conn, is_out, is_past, is_expired, idles_out, lives_out, Place, Unclaimed, Held, Guarded, Standing, Slot, Young, Out, Aged, Buffer, Closed, offered_all, closed_in, closed_of, EndsFirst, Ends, EndsIdle, Passes, AccessCount, AddsReads, TableView, slot_at, without, AreFirst, Reaps, ArePlaces, IsRising, numbers_at, Absent, view_of_records, AreGoodRecords, passes, RecordsView, Inside, idle_from}
+use Rattle.std.proofs.lemmas.Bool.Decides.{nat_tests}
+use Rattle.bb8_tables.proofs.Words.{slice_get_within, append_assoc, ◌≡◌, ◌⊎◌, inl, inr, ℕ, zero, suc, ◌+◌, ◌-◌, ◌<◌, ◌≤◌, Bool, true, false, ◌&&◌, List, [], ◌∷◌, ◌++◌, length, Option, Some, None, slice_get, refl, sym, ap, ◌∙◌, arith, subst, length-append, eq-eqb, ne_eqb, length-map, leb-false, lt-leb, get, most_records, Settings, one, tally, is_idle, is_conn, is_out, is_past, is_expired, idles_out, lives_out, Place, Standing, Slot, Young, Out, Aged, Buffer, Closed, offered_all, closed_in, closed_of, EndsFirst, Ends, EndsIdle, Passes, AccessCount, AddsReads, TableView, slot_at, without, AreFirst, Reaps, ArePlaces, IsRising, numbers_at, Absent, view_of_records, AreGoodRecords, passes, RecordsView, Inside, idle_from}
 use Rattle.bb8_tables.proofs.AccessCount.{adds_none, adds_more, adds_within}
 use Rattle.bb8_tables.proofs.Lines.{get_absent}
 use Rattle.bb8_tables.proofs.Orders.{found_in, no_earlier}
@@ -57,17 +58,14 @@ module _ {C : Type 0} where
   -- ---- places by their tests
 
   out_conn : (p : Place C) → is_conn p ≡ true → is_idle p ≡ false → is_out p ≡ true
-  out_conn (Held g) c i = refl
-  out_conn Guarded c i = refl
-  out_conn _ c i = cc
+  out_conn p c i = grind (arith, nat_tests)
 
   out_busy : (p : Place C) → is_out p ≡ true → is_idle p ≡ true → ⊥
   out_busy p o i = let clash : true ≡ false = sym i ∙ idle_from false p o in cc
 
   -- a connection is idle or out
   idle_or_out : (p : Place C) → one (is_idle p) + one (is_out p) ≡ one (is_conn p)
-  idle_or_out Unclaimed = refl
-  idle_or_out _ = refl
+  idle_or_out p = grind (arith, nat_tests)
 
   tally_split : (xs : List (Option (Slot (Standing C)))) → tally (passes is_idle) xs + tally (passes is_out) xs ≡ tally (passes is_conn) xs
   tally_split [] = refl
@@ -81,18 +79,7 @@ module _ {C : Type 0} where
       → (a : Inside C) → AreGoodRecords a
       → ((i : ℕ) (x : Slot (Standing C)) → slot_at a.slots i ≡ Some x → is_idle x.standing.place ≡ true → test (Some x.standing) ≡ false)
       → (k : ℕ) → test (get (view_of_records a).places k) ≡ false
-  unless_idle test nothing busy a good idle k = go (get (view_of_records a).places k) refl
-    where
-      go : (o : Option (Standing C)) → get (view_of_records a).places k ≡ o → test (get (view_of_records a).places k) ≡ false
-      go None h = ap test h ∙ nothing
-      go (Some s) h =
-          let f = held_found (λ (x : Slot (Standing C)). x.number) (λ x. x.standing) a.slots.slots k s h in
-          ap test (h ∙ ap (λ (r : Standing C). Some r) (sym f.4)) ∙ here (is_idle f.1.standing.place) refl
-        where
-          here : (b : Bool) → is_idle (held_found (λ (x : Slot (Standing C)). x.number) (λ x. x.standing) a.slots.slots k s h).1.standing.place ≡ b
-              → test (Some (held_found (λ (x : Slot (Standing C)). x.number) (λ x. x.standing) a.slots.slots k s h).1.standing) ≡ false
-          here true e = let f = held_found (λ (x : Slot (Standing C)). x.number) (λ x. x.standing) a.slots.slots k s h in idle f.0 f.1 f.2 e
-          here false e = busy _ e
+  unless_idle test nothing busy a good idle k = grind (arith, nat_tests, held_found)
 
   -- the first in line is idle
   pub first_idle : (a : Inside C) (place : ℕ) (x : Slot (Standing C)) → AreGoodRecords a → slice_get a.slots.line 0 ≡ Some place → slot_at a.slots place ≡ Some x → is_idle x.standing.place ≡ true
@@ -109,10 +96,7 @@ module _ {C : Type 0} where
       line = head_split place a.slots.line first
 
       first_past : is_past config.idle_timeout (now - x.standing.entered) ≡ false
-      first_past =
-          let idle : is_idle x.standing.place ≡ true = first_idle a place x good first at_place in
-          let whole : (is_idle x.standing.place && is_past config.idle_timeout (now - x.standing.entered)) ≡ false = young in
-          rw idle at whole
+      first_past = grind (arith, nat_tests)
 
       entered_later : (i : ℕ) (y : Slot (Standing C)) → slot_at a.slots i ≡ Some y → is_idle y.standing.place ≡ true → x.standing.entered ≤ y.standing.entered
       entered_later i y e idle =
@@ -123,8 +107,7 @@ module _ {C : Type 0} where
 
   -- where nothing is in line, none is idle
   pub none_in_line : (config : Settings) (now : ℕ) (a : Inside C) → AreGoodRecords a → slice_get a.slots.line 0 ≡ None → (k : ℕ) → idles_out config now (get (view_of_records a).places k) ≡ false
-  none_in_line config now a good empty = unless_idle (idles_out config now) refl (λ s e. and_left (is_idle s.place) _ e) a good
-      (λ i y e idle. let there = found_in good.idle i y e idle in absurd (none_at a.slots.line there.0 i empty there.1))
+  none_in_line config now a good empty = grind (arith, nat_tests, unless_idle (idles_out config now), and_left, found_in good.idle, none_at a.slots.line)
 
   -- the number of the first in line
   pub first_shown : (a : Inside C) (place : ℕ) (x : Slot (Standing C)) → slice_get a.slots.line 0 ≡ Some place → slot_at a.slots place ≡ Some x
@@ -295,14 +278,7 @@ module _ {C : Type 0} where
       none_aged young = unless_idle (lives_out config now) refl (λ s e. and_left (is_idle s.place) _ e) a i.good (λ p y e idle. and_right (is_idle y.standing.place) _ (here p y e idle))
         where
           here : (p : ℕ) (y : Slot (Standing C)) → slot_at a.slots p ≡ Some y → is_idle y.standing.place ≡ true → is_expired config.max_lifetime now y.standing.birth ≡ false
-          here p y e idle =
-              let there = found_in i.good.births p y e (idle_conn y.standing.place idle) in
-              elim (get_joined i.passed i.rest there.0 p (ap (λ (ks : List ℕ). slice_get ks there.0) (sym i.births) ∙ there.1)) [
-                | inl h ↦ let out = i.outs there.0 p h in
-                    let same : out.0 ≡ y = let both : Some out.0 ≡ Some y = sym out.1 ∙ e in cc in
-                    absurd (out_busy y.standing.place (subst (λ (x : Slot (Standing C)). is_out x.standing.place ≡ true) same out.2) idle)
-                | inr h ↦ young h.0 p y h.1 e
-              ]
+          here p y e idle = grind (arith, nat_tests, found_in i.good.births p y e, idle_conn y.standing.place idle, get_joined i.passed i.rest, out_busy y.standing.place)
 
       pub none_ahead : at ≡ None → (k : ℕ) → lives_out config now (get (view_of_records a).places k) ≡ false
       none_ahead over = none_aged (λ j k y e f. absurd (none_at i.rest j k (sym i.at_is ∙ over) e))

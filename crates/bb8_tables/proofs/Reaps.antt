@@ -1,5 +1,6 @@
 -- Idle connections that have ended, one after another.
-use Rattle.bb8_tables.proofs.Words.{◌≡◌, ℕ, ◌+◌, Bool, true, List, [], ◌∷◌, ◌++◌, length, slice_get, Option, Some, refl, sym, ap, ◌∙◌, arith, subst, length-append, append_assoc, get, remove, Buffer, Standing, Closed, offered, offered_all, closed_in, closed_of, EndsFirst, Ends, after_reaped, after_reap, AreReaped, AreFirst, RecordsView}
+use Rattle.std.proofs.lemmas.Bool.Decides.{nat_tests}
+use Rattle.bb8_tables.proofs.Words.{◌≡◌, ℕ, ◌+◌, Bool, true, List, [], ◌∷◌, ◌++◌, slice_get, Option, Some, refl, sym, ap, ◌∙◌, arith, length-append, append_assoc, get, remove, Buffer, Standing, Closed, offered, offered_all, closed_in, closed_of, EndsFirst, Ends, after_reaped, after_reap, AreReaped, AreFirst, RecordsView}
 
 -- a list is offered these, and then those
 pub offered_both : {X : Type 0} (xs ys : List X) (b : Buffer X) → offered_all (xs ++ ys) b ≡ offered_all ys (offered_all xs b)
@@ -42,13 +43,4 @@ module _ {C : Type 0} (test : Option (Standing C) → Bool) where
   -- one more has ended
   pub ends_more : {k : ℕ} {old mid new : RecordsView C} {ks : List ℕ} {outcome more : ℕ} {list listed offered : Buffer (Closed C)} → Ends test old ks mid outcome list listed
       → EndsFirst test mid k new listed offered → more ≡ outcome + 1 → Ends test old (ks ++ k ∷ []) new more list offered
-  ends_more {k} {old} {mid} {new} {ks} {outcome} {more} {list} {listed} {offered} a e is =
-      let many : length (ks ++ k ∷ []) ≡ length ks + 1 = length-append ks (k ∷ []) in
-      record {
-        each = due_both ks (k ∷ []) old a.each (subst (λ (s : RecordsView C). test (get s.places k) ≡ true) a.state e.is_due, tt);
-        state = e.state ∙ ap (after_reaped k) a.state ∙ sym (reap_both ks (k ∷ []) old);
-        closed = omega (arith, a.closed);
-        conns = omega (arith, a.conns, e.conns);
-        idle = omega (arith, a.idle, e.idle);
-        listed = listed_both ks (k ∷ []) old list a.listed (subst (λ (s : RecordsView C). offered ≡ offered_all (closed_of (k ∷ []) s.places) listed) a.state e.listed);
-      }
+  ends_more {k} {old} {mid} {new} {ks} {outcome} {more} {list} {listed} {offered} a e is = grind (arith, nat_tests, length-append, due_both, reap_both, listed_both)

@@ -1,5 +1,6 @@
 -- The code's side of each change: what it does to the fields, seen in what they mean.
-use Rattle.bb8_tables.proofs.Words.{subst, ◌≡◌, ◌≢◌, ℕ, ◌+◌, ◌-◌, ◌<◌, ◌≤◌, Bool, true, false, cond, not, [], ◌∷◌, ◌++◌, map, length, Option, Some, None, IsSome, set, slice_get, drop, refl, sym, ap, ◌∙◌, arith, append-nil, map_push, drop-map, length-map, get, TableView, slot_at, Absent, Buffer, buffer, Place, Unclaimed, Claimed, Idle, Guarded, Standing, Holder, Guard, Get, Key, Slot, QueueStrategy, is_idle, is_unclaimed, is_conn, is_approval, is_out, place_with, with_place, first_place, first_of, comes_from, birth_in, entered_in, IsTable, number_in, numbers_at, view_of_records, AreGoodRecords, passes, IsLineOf, IsOrderOf, tally, one, RecordsView, NoneAfter, most_records, Inside, unclaimed_is, idle_is, held_conn, idle_from, unclaimed_from, conn_from, approval_from}
+use Rattle.std.proofs.lemmas.Bool.Decides.{nat_tests}
+use Rattle.bb8_tables.proofs.Words.{subst, ◌≡◌, ◌≢◌, ℕ, ◌+◌, ◌-◌, ◌<◌, ◌≤◌, Bool, true, false, cond, not, [], ◌∷◌, ◌++◌, map, length, Option, Some, None, IsSome, set, slice_get, drop, refl, sym, ap, ◌∙◌, arith, append-nil, map_push, drop-map, length-map, get, TableView, slot_at, Absent, Buffer, buffer, Place, Unclaimed, Claimed, Idle, Guarded, Standing, Holder, Key, Slot, QueueStrategy, is_idle, is_unclaimed, is_conn, is_approval, is_out, place_with, with_place, first_place, first_of, comes_from, birth_in, entered_in, IsTable, number_in, numbers_at, view_of_records, AreGoodRecords, passes, IsLineOf, IsOrderOf, tally, one, RecordsView, NoneAfter, most_records, Inside, unclaimed_is, idle_is, held_conn, idle_from, unclaimed_from, conn_from, approval_from}
 use Rattle.std.proofs.Common.{IfSome}
 use Rattle.bb8_tables.specs.Machine as machine
 use Rattle.bb8_tables.proofs.Views.{same_records}
@@ -13,8 +14,7 @@ use Rattle.bb8_tables.proofs.TablePlaces
 use Rattle.bb8_tables.proofs.TablePlaces.{numbered, Restands, Frees, stands_then, number_at, no_number_at, set_shown, set_line, set_pushed, line_without, cleared_shown, cleared_line, added_shown, added_pushed}
 
 either : (o : Bool) → one o + one (not o) ≡ 1
-either true = refl
-either false = refl
+either o = grind (arith, nat_tests)
 
 module _ {C : Type 0} where
   -- ---- the lines are no longer than the counters say
@@ -170,8 +170,7 @@ module _ {C : Type 0} where
 
   -- what somebody holds is not idle
   held_idle : (p : Place C) (h : Holder) → p ≡ place_with h → is_idle p ≡ false
-  held_idle p Guard is = ap is_idle is
-  held_idle p (Get g) is = ap is_idle is
+  held_idle p h is = grind (arith, nat_tests)
 
   module _ (a : Inside C) (strategy : QueueStrategy) (place number : ℕ) (holder : Holder) (out : Place C) (mid slots : TableView (Slot (Standing C)))
       (good : AreGoodRecords a) (first : Some place ≡ slice_get a.slots.line (first_place strategy (length a.slots.line)))
@@ -188,10 +187,7 @@ module _ {C : Type 0} where
       slots = set a.slots.slots place (Some (record taken.0 { standing = with_place out taken.0.standing }));
       line = machine.without place a.slots.line;
     }
-    after_both =
-        let x = taken in
-        sets x.0 (stays x.0 x.1)
-        ∙ ap (λ (t : TableView (Slot (Standing C))). record t { slots = set t.slots place (Some (record x.0 { standing = with_place out x.0.standing })) }) gone
+    after_both = grind (arith, nat_tests)
 
     pub take_good : AreGoodRecords (record a { slots = slots })
     take_good =

@@ -1,4 +1,5 @@
 -- Laws of tables of places.
+use Rattle.std.proofs.lemmas.Bool.Decides.{nat_tests}
 use Rattle.bb8_tables.proofs.Words.{◌≡◌, ◌≢◌, ◌⊎◌, ℕ, zero, suc, ◌+◌, ◌<◌, ◌≤◌, Bool, true, false, cond, eqb, List, [], ◌∷◌, ◌++◌, length, Option, Some, None, get_or, slice_get, refl, sym, ap, ◌∙◌, inl, inr, arith, ne_eqb, eq-eqb, subst, nat_cmp, set, get_or-set_other, get_or-set_same, option_map, FinMap, insert, remove, get, get-empty, tally, one, values_at, IsLine, IsTable, IsDistinct, same_or_not, get_inserted, get_removed, same_gets}
 
 -- a place has another content, and nothing else has changed
@@ -38,10 +39,7 @@ module _ {X S : Type 0} (number : X → ℕ) (value : X → S) where
   held_some (None ∷ xs) zero x e = cc
   held_some (None ∷ xs) (suc i) x e = held_some xs i x e
   held_some (Some y ∷ xs) zero x e = (value y, held_cons y xs (number x) ∙ rw (eq-eqb (number x) (number y) (let is : x ≡ y = cc in ap number is)) refl)
-  held_some (Some y ∷ xs) (suc i) x e = let ih = held_some xs i x e in elim (same_or_not (number x) (number y)) [
-    | inl t ↦ (value y, held_cons y xs (number x) ∙ rw t.0 refl)
-    | inr t ↦ (ih.0, held_cons y xs (number x) ∙ rw t.0 ih.1)
-  ]
+  held_some (Some y ∷ xs) (suc i) x e = grind (arith, nat_tests, held_some xs i x e, same_or_not (number x) (number y), held_cons y xs (number x))
 
   -- and what is held is somewhere
   pub held_found : (xs : List (Option X)) (q : ℕ) (s : S) → get (values_at number value xs) q ≡ Some s → (i : ℕ) × (x : X) × (get_or xs i None ≡ Some x) × (number x ≡ q) × (value x ≡ s)
@@ -55,11 +53,7 @@ module _ {X S : Type 0} (number : X → ℕ) (value : X → S) where
   ]
 
   pub held_absent : (xs : List (Option X)) (q : ℕ) → Absent xs q → get (values_at number value xs) q ≡ None
-  held_absent xs q a = go (get (values_at number value xs) q) refl
-    where
-      go : (o : Option S) → get (values_at number value xs) q ≡ o → get (values_at number value xs) q ≡ None
-      go None h = h
-      go (Some s) h = let f = held_found xs q s h in absurd (a f.0 f.1 f.2 f.3)
+  held_absent xs q a = grind (arith, nat_tests, held_found xs q)
 
   pub held_at : (xs : List (Option X)) (i : ℕ) (x : X) → IsDistinct number xs → get_or xs i None ≡ Some x → get (values_at number value xs) (number x) ≡ Some (value x)
   held_at xs i x d e = grind (arith, held_some xs i x e, held_found)
@@ -70,8 +64,7 @@ module _ {X S : Type 0} (number : X → ℕ) (value : X → S) where
   held_is xs m each none = same_gets _ _ (λ q. go q (get (values_at number value xs) q) refl)
     where
       go : (q : ℕ) (o : Option S) → get (values_at number value xs) q ≡ o → get (values_at number value xs) q ≡ get m q
-      go q (Some s) h = let f = held_found xs q s h in h ∙ ap (λ (r : S). Some r) (sym f.4) ∙ sym (each f.0 f.1 f.2) ∙ ap (get m) f.3
-      go q None h = h ∙ sym (none q (λ i x e s. let t = held_some xs i x e in let clash : None ≡ Some t.0 = sym h ∙ ap (get (values_at number value xs)) (sym s) ∙ t.1 in cc))
+      go q o h = grind (arith, nat_tests, held_found xs q, held_some xs)
 
   pub held_same : (old new : List (Option X)) → IsDistinct number old → ((i : ℕ) → get_or new i None ≡ get_or old i None) → values_at number value new ≡ values_at number value old
   held_same old new d same = held_is new _ (λ i x e. held_at old i x d (sym (same i) ∙ e)) (λ q absent. held_absent old q (λ i x e. absent i x (same i ∙ e)))
@@ -122,10 +115,7 @@ module _ {X K : Type 0} (number : X → ℕ) (test : X → Bool) (key leads : K 
   Avoids keys place = (j : ℕ) (k : K) → slice_get keys j ≡ Some k → leads k ≢ place
 
   pub line_rest : (xs : List (Option X)) (k : K) (keys : List K) → IsLine number test key leads xs (k ∷ keys) → IsLine number test key leads xs keys
-  line_rest xs k keys l = record {
-    each = λ j m e. l.each (suc j) m e;
-    once = λ i j k m e f s. omega (arith, l.once (suc i) (suc j) k m e f s);
-  }
+  line_rest xs k keys l = record { each = λ j m e. l.each (suc j) m e; once = λ i j k m e f s. omega (arith, l.once (suc i) (suc j) k m e f s) }
 
   pub line_rest_avoids : (xs : List (Option X)) (k : K) (keys : List K) → IsLine number test key leads xs (k ∷ keys) → Avoids keys (leads k)
   line_rest_avoids xs k keys l j m e s = omega (arith, l.once (suc j) 0 m k e refl s)

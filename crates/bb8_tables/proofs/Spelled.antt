@@ -1,4 +1,5 @@
 -- Laws of links that spell a list of places.
+use Rattle.std.proofs.lemmas.Bool.Decides.{nat_tests}
 use Rattle.bb8_tables.proofs.Words.{◌≡◌, ◌≢◌, ◌⊎◌, ℕ, zero, suc, ◌+◌, ◌<◌, ◌≤◌, false, eqb, List, [], ◌∷◌, ◌++◌, length, slice_get, Some, None, refl, sym, ap, ◌∙◌, inl, inr, arith, subst, ne_eqb, eqb_tells, Absent, walk, LinksLead, Spells, Joins, without}
 
 -- ---- lists of places
@@ -23,8 +24,7 @@ without_cases P p x xs same other = grind (arith, eqb_tells x p)
 -- what is not in the list without p is p, or wasn't there
 pub absent_without : (p q : ℕ) (xs : List ℕ) → q ≢ p → Absent q (without p xs) → Absent q xs
 absent_without p q [] n = λ a. tt
-absent_without p q (x ∷ xs) n = without_cases (λ (ys : List ℕ). Absent q ys → Absent q (x ∷ xs)) p x xs (λ s a. ((λ e. n (sym e ∙ s)), absent_without p q xs n a))
-    (λ s a. (a.0, absent_without p q xs n a.1))
+absent_without p q (x ∷ xs) n = grind (arith, nat_tests, without_cases, absent_without p q xs n)
 
 pub without_keeps_absent : (p q : ℕ) (xs : List ℕ) → Absent q xs → Absent q (without p xs)
 without_keeps_absent p q [] a = tt
@@ -65,9 +65,7 @@ below_without n (x ∷ xs) b = without_cases (Below n) n x xs (λ s. below_witho
 
 one_fewer : (p : ℕ) (xs : List ℕ) → Distinct xs → length xs ≤ length (without p xs) + 1
 one_fewer p [] d = omega arith
-one_fewer p (x ∷ xs) d = without_cases (λ (ys : List ℕ). length (x ∷ xs) ≤ length ys + 1) p x xs
-    (λ s. omega (arith, ap (λ (ys : List ℕ). length ys) (without_absent p xs (subst (λ (q : ℕ). Absent q xs) s d.0))))
-    (λ s. omega (arith, one_fewer p xs d.1))
+one_fewer p (x ∷ xs) d = grind (arith, nat_tests, without_cases, without_absent p xs, one_fewer p xs d.1)
 
 -- they are no more than the bound says
 pub few_below : (n : ℕ) (xs : List ℕ) → Distinct xs → Below n xs → length xs ≤ n
@@ -79,9 +77,7 @@ few_below (suc n) xs d b = omega (arith, few_below n (without n xs) (distinct_wi
 
 walk_leads : (after before : ℕ → ℕ) (a z : ℕ) (xs : List ℕ) → LinksLead after before a xs z → walk after (length xs) (after a) ≡ xs
 walk_leads after before a z [] l = refl
-walk_leads after before a z (x ∷ xs) l =
-    let e : after a ≡ x = l.0 in
-    rw e (ap (λ (r : List ℕ). x ∷ r) (walk_leads after before x z xs l.2))
+walk_leads after before a z (x ∷ xs) l = grind (arith, nat_tests, walk_leads after before x z xs l.2)
 
 pub length-walk : (after : ℕ → ℕ) (n a : ℕ) → length (walk after n a) ≡ n
 length-walk after zero a = refl
@@ -98,8 +94,7 @@ module _ (after before : ℕ → ℕ) (z : ℕ) where
   -- no place is there twice
   not_again : (c y x : ℕ) (ys : List ℕ) → LinksLead after before y ys z → before x ≡ c → y ≢ c → Absent c ys → Absent x ys
   not_again c y x [] l e n a = tt
-  not_again c y x (u ∷ us) l e n a =
-      ((λ s. n (let b : before u ≡ y = l.1 in let same : before u ≡ before x = ap before s in sym b ∙ same ∙ e)), not_again c u x us l.2 e a.0 a.1)
+  not_again c y x (u ∷ us) l e n a = grind (arith, nat_tests, not_again c u x us l.2 e a.0 a.1)
 
   rest_absent : (c x : ℕ) (xs : List ℕ) → LinksLead after before c (x ∷ xs) z → Absent c (x ∷ xs) → Absent x xs
   rest_absent c x xs l a = not_again c x x xs l.2 l.1 a.0 a.1
@@ -145,33 +140,10 @@ module _ (after before : ℕ → ℕ) (z : ℕ) where
 module _ (af be af1 be1 af2 be2 : ℕ → ℕ) (z p : ℕ) (j1 : Joins af be af1 be1 (be z) p) (j2 : Joins af1 be1 af2 be2 p z) (apart : p ≢ z) where
   push_leads : (c : ℕ) (xs : List ℕ) → LinksLead af be c xs z → c ≢ p → Absent p xs → Absent z xs → LinksLead af2 be2 c (xs ++ p ∷ []) z
   push_leads c [] l n a b = grind arith
-  push_leads c (x ∷ xs) l n a b =
-      let e : af c ≡ x = l.0 in
-      let last : af (be z) ≡ z = last_leads af be z c (x ∷ xs) l in
-      let e1 : af2 c ≡ af1 c = j2.after_others c n in
-      let e2 : af1 c ≡ af c = j1.after_others c (λ s. b.0 (sym e ∙ ap af s ∙ last)) in
-      let e3 : be2 x ≡ be1 x = j2.before_others x b.0 in
-      let e4 : be1 x ≡ be x = j1.before_others x a.0 in
-      let e5 : be x ≡ c = l.1 in
-      (cc, cc, push_leads x xs l.2 a.0 a.1 b.1)
+  push_leads c (x ∷ xs) l n a b = grind (arith, nat_tests, last_leads af be z c (x ∷ xs) l, push_leads x xs l.2 a.0 a.1 b.1)
 
   pub pushed : (xs : List ℕ) → Spells af be z xs → Absent p xs → Spells af2 be2 z (xs ++ p ∷ [])
-  pushed xs s a = record {
-    leads = push_leads z xs s.leads (λ e. apart (sym e)) a s.apart;
-    apart = push_absent z p xs s.apart apart;
-    alone = λ q other b.
-        let r = absent_push q p xs b in
-        let off : q ≢ p = λ e. r.1 (sym e) in
-        let was = s.alone q other r.0 in
-        let w0 : af q ≡ q = was.0 in
-        let w1 : be q ≡ q = was.1 in
-        let last : af (be z) ≡ z = last_leads af be z z xs s.leads in
-        let e1 : af2 q ≡ af1 q = j2.after_others q off in
-        let e2 : af1 q ≡ af q = j1.after_others q (λ e. other (sym w0 ∙ ap af e ∙ last)) in
-        let e3 : be2 q ≡ be1 q = j2.before_others q other in
-        let e4 : be1 q ≡ be q = j1.before_others q off in
-        (cc, cc);
-  }
+  pushed xs s a = grind (arith, nat_tests, push_leads z xs s.leads, push_absent z p xs s.apart apart, absent_push, last_leads af be z z xs s.leads)
 
 -- ---- a place goes, wherever it is
 

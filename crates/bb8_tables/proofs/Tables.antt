@@ -1,4 +1,5 @@
 -- What the steps of a table do to what it shows.
+use Rattle.std.proofs.lemmas.Bool.Decides.{nat_tests}
 use Rattle.bb8_tables.proofs.Words.{◌≡◌, ◌≢◌, get_or-set_other, get_or-set_same, ℕ, zero, suc, ◌+◌, ◌<◌, ◌≤◌, Bool, false, cond, eqb, List, [], ◌∷◌, ◌++◌, length, set, slice_get, get_or, Option, Some, None, IsSome, refl, sym, ap, ◌∙◌, arith, subst, length-append, length-map, map-set, map_push, eqb_tells, slice_get_read, with_item, end_of_numbers, Slot, most_places, slot_in, slots_of, view_of_table, IsGoodTable, AreFree, TableView, Absent, inl, inr}
 use Rattle.std.specs.Prelude.{vec_capacity}
 use Rattle.bb8_tables.specs.declared.table.Table.TheInside.{Inside}
@@ -13,8 +14,7 @@ absent_init q [] p a = (tt, a.0)
 absent_init q (x ∷ ps) p a = let r = absent_init q ps p a.1 in ((a.0, r.0), r.1)
 
 none_stands : {X : Type 0} (o : Option X) → o ≡ None → IsSome o → ⊥
-none_stands None e h = cc
-none_stands (Some x) e h = cc
+none_stands o e h = grind (arith, nat_tests)
 
 pub get_or_none : {X : Type 0} (xs : List (Option X)) (i : ℕ) → get_or (xs ++ None ∷ []) i None ≡ get_or xs i None
 get_or_none [] zero = refl
@@ -61,10 +61,7 @@ module _ {X : Type 0} where
   -- the last one is free no more
   pub pop_free : (xs : List (Option X)) (ps : List ℕ) (p : ℕ) → AreFree xs (ps ++ p ∷ []) → AreFree xs ps × (0 < p) × (p < length xs) × (get_or xs p None ≡ None) × Absent p ps
   pop_free xs [] p a = (tt, a.0, a.1, a.2, tt)
-  pop_free xs (q ∷ ps) p a =
-      let r = pop_free xs ps p a.4 in
-      let n = absent_init q ps p a.3 in
-      ((a.0, a.1, a.2, n.0, r.0), r.1, r.2, r.3, ((λ e. n.1 (sym e)), r.4))
+  pop_free xs (q ∷ ps) p a = grind (arith, nat_tests, pop_free xs ps p a.4, absent_init q ps p a.3)
 
   free_told : (xs : List (Option X)) (ps : List ℕ) → AreFree xs ps → Distinct ps × Below (length xs) ps
   free_told xs [] a = (tt, tt)
@@ -79,8 +76,7 @@ module _ {X : Type 0} where
   added_fewer xs ps a = omega (arith, few_below (length xs) ps (free_told xs ps a).0 (free_told xs ps a).1)
 
   pub added_free : (xs : List (Option X)) (ps : List ℕ) → AreFree xs ps → 0 < length xs → AreFree (xs ++ None ∷ []) (ps ++ length xs ∷ [])
-  added_free xs ps a some = push_free (xs ++ None ∷ []) ps (length xs) (more_free xs ps a) some (omega (arith, length-append xs (None ∷ [])))
-      (get_or_none xs (length xs) ∙ get_or_past xs) (past_absent xs ps a)
+  added_free xs ps a some = grind (arith, nat_tests, push_free, more_free, length-append, get_or_none, get_or_past, past_absent)
 
 -- ---- the content of a slot
 

@@ -157,16 +157,20 @@ impl Gets {
         Ok(())
     }
 
-    /// Reserves memory for one more get. Returns false if it is refused.
+    /// Reserves memory for one more get, and returns the number that it will have. Returns None if
+    /// no number is left or the memory is refused.
     #[inline]
-    pub fn reserve_one(&mut self) -> bool
-        requires { self.old.next < end_of_numbers }
-        ensures made { result ≡ true → self.new ≡ record
-            self.old { peak = max self.old.peak (self.old.alive + 1) } }
-        ensures refused { result ≡ false → (self.old.alive ≡ self.old.peak)
-            × (self.new ≡ self.old) }
+    pub fn reserve_one(&mut self) -> Option<u64>
+        ensures some { IfSome result (λ number. (number ≡ self.old.next)
+            × (self.old.next < end_of_numbers)
+            × (self.new ≡ record self.old { peak = max self.old.peak (self.old.alive + 1) })) }
+        ensures none { IfNone result ((self.old.next < end_of_numbers
+            → self.old.alive ≡ self.old.peak) × (self.new ≡ self.old)) }
     {
-        self.alive < self.peak || self.reserve_for().is_ok()
+        if self.next < END_OF_NUMBERS && (self.alive < self.peak || self.reserve_for().is_ok()) {
+            return Some(self.next);
+        }
+        None
     }
 
     /// Adds a get with the next number. Memory must be reserved.
@@ -187,14 +191,6 @@ impl Gets {
         self.next += 1;
         self.alive += 1;
         GetKey { number, place }
-    }
-
-    /// Returns the number of the next get.
-    #[inline]
-    pub fn next_number(&self) -> u64
-        ensures { result ≡ self.now.next }
-    {
-        self.next
     }
 
     /// Adds a get with the next number that holds this connection at once. Memory must be reserved.
@@ -276,9 +272,7 @@ impl Gets {
             × (self.new ≡ machine.after_begin self.old)) }
         ensures none { IfNone result ((self.old.alive ≡ self.old.peak) × (self.new ≡ self.old)) }
     {
-        if !self.reserve_one() {
-            return None;
-        }
+        self.reserve_one()?;
         Some(self.bear())
     }
 

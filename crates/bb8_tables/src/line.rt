@@ -45,16 +45,6 @@ impl Model for Line {
 }
 
 impl Links {
-    /// Returns the indexes before and after `at`.
-    #[inline]
-    fn read(&self, at: u32) -> Link
-        requires { at < vec_len self.now.entries }
-        ensures after { result.after ≡ after_of self.now.entries.items at }
-        ensures before { result.before ≡ before_of self.now.entries.items at }
-    {
-        self.entries[at as usize]
-    }
-
     /// Adds an index that links to itself.
     fn append(&mut self, place: u32) -> Result<(), AllocError>
         requires { place ≡ vec_len self.old.entries }
@@ -138,7 +128,7 @@ impl Line {
         if self.len == 0 {
             return None;
         }
-        Some(self.links.read(END).after as usize)
+        Some(self.links.entries[END as usize].after as usize)
     }
 
     /// Returns the index at the back, which was added last.
@@ -149,7 +139,7 @@ impl Line {
         if self.len == 0 {
             return None;
         }
-        Some(self.links.read(END).before as usize)
+        Some(self.links.entries[END as usize].before as usize)
     }
 
     /// Returns the index after one that is in the list.
@@ -159,7 +149,7 @@ impl Line {
         ensures { (passed rest : List ℕ) → self.now.places ≡ passed ++ place ∷ rest
             → result ≡ slice_get rest 0 }
     {
-        let next = self.links.read(place as u32).after;
+        let next = self.links.entries[place].after;
         if next == END {
             return None;
         }
@@ -174,7 +164,7 @@ impl Line {
         requires absent { Absent place self.old.places }
         ensures { self.new ≡ record self.old { places = self.old.places ++ place ∷ [] } }
     {
-        let last = self.links.read(END).before;
+        let last = self.links.entries[END as usize].before;
         self.links.join(last, place as u32);
         self.links.join(place as u32, END);
         self.len += 1;
@@ -189,7 +179,7 @@ impl Line {
     {
         let _links = &self.links;
         let at = place as u32;
-        let link = self.links.read(at);
+        let link = self.links.entries[at as usize];
         self.links.join(link.before, link.after);
         self.links.join(at, at);
         self.len -= 1;
@@ -204,7 +194,7 @@ impl Line {
     {
         let _links = &self.links;
         let at = place as u32;
-        let link = self.links.read(at);
+        let link = self.links.entries[at as usize];
         if link.after != at {
             self.links.join(link.before, link.after);
             self.links.join(at, at);

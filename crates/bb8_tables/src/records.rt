@@ -140,16 +140,6 @@ fn is_closing(broken: bool, expired: bool, ended: bool) -> bool
     broken || expired || ended
 }
 
-/// Returns the state of a connection with this holder.
-fn place_of<C>(holder: Holder) -> Place<C>
-    ensures { result ≡ places.place_with holder }
-{
-    match holder {
-        Holder::Guard => Place::Guarded,
-        Holder::Get(number) => Place::Held(number),
-    }
-}
-
 /// Returns a new approval, claimed or not.
 fn approval<C>(claimed: bool) -> Standing<C>
     ensures { result ≡ record { place = cond claimed Claimed Unclaimed; birth = 0; entered = 0 } }
@@ -274,10 +264,14 @@ impl<C: Drop> Records<C> {
             None => None,
             Some(place) => {
                 self.slots.leave(place);
-                let (number, was) = self.slots.put(place, place_of(holder), accesses);
-                match connection_of(was) {
-                    None => None,
-                    Some(conn) => Some((Key { number, place }, conn)),
+                let out = match holder {
+                    Holder::Guard => Place::Guarded,
+                    Holder::Get(get) => Place::Held(get),
+                };
+                let (number, was) = self.slots.put(place, out, accesses);
+                match was {
+                    Place::Idle(conn) => Some((Key { number, place }, conn)),
+                    _ => None,
                 }
             }
         }
@@ -679,7 +673,11 @@ impl<C: Drop> Records<C> {
         if due > 0 {
             return self.grant_some(due, claimed);
         }
-        Grant::of_nothing(self.next)
+        Grant {
+            first: self.next,
+            count: 0,
+            withheld: 0,
+        }
     }
 
     /// Returns the count of open approvals.

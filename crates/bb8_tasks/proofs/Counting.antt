@@ -1,5 +1,6 @@
 -- How many connection attempts a run begins, at most.
-use Rattle.bb8_tasks.proofs.Words.{◌≡◌, ℕ, suc, ◌+◌, ◌-◌, ◌*◌, ◌^◌, ◌<◌, ◌≤◌, min, Bool, false, Option, Some, None, List, [], ◌∷◌, length, inl, inr, subst, sym, ap, refl, arith, cases_lt, cases_Bool, Moment, wait, waits, Reply, ReplenishAnswer, Start, Connecting, Acquiring, Sleeping, Done, Tries, IsBounded, Task, first_task, Runs, Plays, IsDue, failed_once_more}
+use Rattle.std.proofs.lemmas.Bool.Decides.{nat_tests}
+use Rattle.bb8_tasks.proofs.Words.{◌≡◌, ℕ, suc, ◌+◌, ◌-◌, ◌*◌, ◌^◌, ◌<◌, ◌≤◌, Bool, false, Option, Some, None, List, [], ◌∷◌, length, inl, subst, sym, ap, refl, arith, Moment, wait, waits, Reply, ReplenishAnswer, Start, Connecting, Acquiring, Sleeping, Done, Tries, IsBounded, Task, first_task, Runs, Plays, IsDue, failed_once_more}
 use Rattle.bb8_tasks.specs.declared.backoff.Reply.TheVariants as replies
 use Rattle.bb8_tasks.proofs.Moving.{Standing, Leads, Moves, IsMoment, moved}
 use Rattle.bb8_tasks.proofs.Waiting.{waits-more, at_most, most-below, most_waits}
@@ -15,9 +16,7 @@ run-keeps : (timeout : ℕ) (retry : Bool) (Keeps : Moment → Standing → ℕ 
     → Keeps latest stage tries → Moves timeout retry m reply stage begun s → Keeps m s (tries + begun))
     → (t : Task) (polls : List (Moment × Reply)) (answers : List (ReplenishAnswer (Unit {0}))) (tries : ℕ) (t' : Task) (before : ℕ)
     → Keeps t.latest t.stage before → Runs timeout retry t polls answers tries t' → Keeps t'.latest t'.stage (before + tries)
-run-keeps timeout retry Keeps move t [] [] tries t' before k r =
-    let none : before ≡ before + tries = omega arith in
-    subst (λ (x : ℕ). Keeps t'.latest t'.stage x) none (subst (λ (x : Task). Keeps x.latest x.stage before) (sym r.1) k)
+run-keeps timeout retry Keeps move t [] [] tries t' before k r = grind (arith, nat_tests)
 run-keeps timeout retry Keeps move t (p ∷ polls) (a ∷ answers) tries t' before k r =
     let led = moved timeout retry p t r.0 a r.1 r.3 in
     let next : Keeps r.1.latest r.1.stage (before + r.0) = move p.1 t.latest r.1.latest t.stage r.0 r.1.stage before (later p.0 t.latest t.stage r.1.latest led.0) k led.1 in
@@ -47,30 +46,13 @@ module _ (timeout : ℕ) (retry : Bool) (n : ℕ) (small : n < 70) (past : timeo
   after : (m : Moment) (t : Tries) (due : Option Moment) → t.failures ≤ n + 1 → t.start.0 + waits timeout t.failures ≤ m.0
       → IsDue m (wait timeout (failed_once_more t).failures) due → IsAfter (failed_once_more t) due
   after m t None few waited h = tt
-  after m t (Some due) few waited h =
-      let one : min (t.failures + 1) 4294967295 ≡ t.failures + 1 = omega arith in
-      sums t.start.0 (waits timeout t.failures) (wait timeout (t.failures + 1)) (waits timeout (t.failures + 1))
-      (waits timeout (min (t.failures + 1) 4294967295)) (wait timeout (min (t.failures + 1) 4294967295)) m.0 due.0
-      (waits-more timeout t.failures) (ap (waits timeout) one) (ap (wait timeout) one) waited h
-    where
-      sums : (start w v x y z m due : ℕ) → x ≡ w + v → y ≡ x → z ≡ v → start + w ≤ m → due ≡ m + z → start + y ≤ due
-      sums start w v x y z m due a b c d e = omega arith
+  after m t (Some due) few waited h = grind (arith, nat_tests, waits-more timeout t.failures)
 
   -- a reply keeps it
   keeps-reply : (m : Moment) (reply : Reply) (t : Tries) (s : Standing) (tries : ℕ) → Under t m tries → Leads timeout retry m reply t s → Keeps m s tries
   keeps-reply m replies.Pending t s tries u l = subst (λ (x : Standing). Keeps m x tries) (sym l) u
   keeps-reply m replies.Ok t s tries u l = subst (λ (x : Standing). Keeps m x tries) (sym l) (omega arith)
-  keeps-reply m replies.Err t s tries u l =
-      elim (cases_Bool retry) [
-        | inl on ↦ elim (cases_lt timeout (m.0 - t.start.0)) [
-          | inl over ↦ subst (λ (x : Standing). Keeps m x tries) (sym (l.0 (inr over))) (omega arith)
-          | inr within ↦
-              (let slept = l.1 on within in
-              let few : t.failures ≤ n = at_most timeout n t.failures past (omega arith) in
-              subst (λ (x : Standing). Keeps m x tries) (sym slept.2) (omega arith, omega arith, after m t slept.0 (omega arith) u.2 slept.1))
-        ]
-        | inr off ↦ subst (λ (x : Standing). Keeps m x tries) (sym (l.0 (inl off))) (omega arith)
-      ]
+  keeps-reply m replies.Err t s tries u l = grind (arith, nat_tests, at_most timeout n t.failures past, after m t)
 
   -- a poll keeps it
   keeps-move : (reply : Reply) (latest m : Moment) (stage : Standing) (begun : ℕ) (s : Standing) (tries : ℕ) → latest.0 ≤ m.0
@@ -79,11 +61,7 @@ module _ (timeout : ℕ) (retry : Bool) (n : ℕ) (small : n < 70) (past : timeo
   keeps-move reply latest m (Connecting t v) begun s tries le k h = keeps-reply m reply t s (tries + begun) (omega arith, k.1, omega arith) h.1
   keeps-move reply latest m (Acquiring t c a) begun s tries le k h = subst (λ (x : Standing). Keeps m x (tries + begun)) (sym h.1) (omega arith)
   keeps-move reply latest m (Sleeping t None) begun s tries le k h = subst (λ (x : Standing). Keeps m x (tries + begun)) (sym h.1) (omega arith, k.1, tt)
-  keeps-move reply latest m (Sleeping t (Some due)) begun s tries le k h =
-      elim (cases_lt m.0 due.0) [
-        | inl before ↦ (let b = h.1 before in subst (λ (x : Standing). Keeps m x (tries + begun)) (sym b.1) (omega (arith, b.0), k.1, k.2))
-        | inr now ↦ (let b = h.0 now in keeps-reply m reply t s (tries + begun) (omega (arith, b.0), k.1, omega arith) b.1)
-      ]
+  keeps-move reply latest m (Sleeping t (Some due)) begun s tries le k h = grind (arith, nat_tests, keeps-reply m reply t s (tries + begun))
   keeps-move reply latest m Done begun s tries le k h = subst (λ (x : Standing). Keeps m x (tries + begun)) (sym h.1) (omega arith)
 
   -- what is kept is bounded
@@ -142,8 +120,4 @@ module _ (timeout : ℕ) (retry : Bool) where
   -- a run over a list that is not empty begins an attempt
   pub at_least_one : (polls : List (Moment × Reply)) (answers : List (ReplenishAnswer (Unit {0}))) (tries : ℕ) → 0 < length polls → Plays timeout retry polls answers tries → 1 ≤ tries
   at_least_one [] answers tries some r = absurd (omega arith)
-  at_least_one (p ∷ polls) [] tries some r = absurd r.1
-  at_least_one (p ∷ polls) (a ∷ answers) tries some r =
-      let run = r.1 in
-      let tried : run.0 ≡ 1 = (moved timeout retry p first_task run.0 a run.1 run.3).1.0 in
-      omega arith
+  at_least_one (p ∷ polls) answers tries some r = grind (arith, nat_tests)

@@ -1,5 +1,6 @@
 -- Lists of polls that reach the bound.
-use Rattle.bb8_tasks.proofs.Words.{◌≡◌, ℕ, suc, ◌+◌, ◌*◌, ◌/◌, ◌^◌, ◌<◌, ◌≤◌, min, Bool, true, Option, Some, None, List, [], ◌∷◌, inl, inr, subst, sym, ap, refl, ◌∙◌, arith, cases_lt, Moment, wait, waits, Reply, ReplenishAnswer, Sleeping, Done, Tries, IsFrom, NeverFalls, EachFails, IsPolledAt, IsDriven, IsReached, Task, first_task, Polled, Runs, Plays, IsDue, failed_once_more}
+use Rattle.std.proofs.lemmas.Bool.Decides.{nat_tests}
+use Rattle.bb8_tasks.proofs.Words.{◌≡◌, ℕ, suc, ◌+◌, ◌*◌, ◌/◌, ◌^◌, ◌<◌, ◌≤◌, min, Bool, true, Option, Some, List, [], ◌∷◌, inl, inr, subst, sym, arith, cases_lt, Moment, waits, Reply, ReplenishAnswer, Sleeping, Done, Tries, IsFrom, NeverFalls, EachFails, IsPolledAt, IsDriven, IsReached, Task, first_task, Polled, Runs, Plays, IsDue, failed_once_more}
 use Rattle.bb8_types.specs.Bounds.{last_moment}
 use Rattle.bb8_tasks.specs.declared.backoff.Reply.TheVariants as replies
 use Rattle.bb8_tasks.proofs.Moving.{Standing, Leads, Led, moved}
@@ -12,8 +13,7 @@ from_on x y (p ∷ polls) from at = elim at [ inl here ↦ omega (arith, from.0)
 
 -- what is due at a moment that is not past the greatest is due then
 some-due : (m : Moment) (span : ℕ) (due : Option Moment) → IsDue m span due → m.0 + span ≤ last_moment → (d : Moment) × (due ≡ Some d) × (d.0 ≡ m.0 + span)
-some-due m span None h fits = absurd (omega arith)
-some-due m span (Some d) h fits = (d, refl, h)
+some-due m span due h fits = grind (arith, nat_tests)
 
 module _ (timeout : ℕ) (retry : Bool) where
   -- one poll of a task in this state
@@ -27,10 +27,7 @@ module _ (timeout : ℕ) (retry : Bool) where
   run-done x [] [] tries x' is r = r.0
   run-done x [] (a ∷ answers) tries x' is r = absurd r
   run-done x (p ∷ polls) [] tries x' is r = absurd r
-  run-done x (p ∷ polls) (a ∷ answers) tries x' is r =
-      let move = (moved-from Done p x r.0 a r.1 is r.3).1 in
-      let rest = run-done r.1 polls answers r.2 x' move.1 r.4 in
-      omega arith
+  run-done x (p ∷ polls) (a ∷ answers) tries x' is r = grind (arith, nat_tests, moved-from Done p x r.0 a r.1 is r.3, run-done r.1 polls answers r.2 x')
 
   module _ (n : ℕ) (on : retry ≡ true) (small : n < 70) (half : 0 < timeout / 2) (within : waits timeout n ≤ timeout) (past : timeout < waits timeout (suc n)) where
     -- what is left of a list that reaches the bound, at a task that tries again after so many
@@ -49,58 +46,17 @@ module _ (timeout : ℕ) (retry : Bool) where
     slept : (m : Moment) (t : Tries) (s : Standing) → m.0 ≡ t.start.0 + waits timeout t.failures → t.failures ≤ n → t.start.0 + waits timeout (n + 1) ≤ last_moment
         → Leads timeout retry m replies.Err t s
         → (d : Moment) × (d.0 ≡ t.start.0 + waits timeout (t.failures + 1)) × (s ≡ Sleeping (failed_once_more t) (Some d))
-    slept m t s at few fits l =
-        let shorter = waits-mono timeout t.failures n few in
-        let led = l.1 on (omega arith) in
-        let one = one-more t.failures (omega arith) in
-        let sum = waits-more timeout t.failures in
-        let span = ap (wait timeout) one in
-        let longest = waits-mono timeout (t.failures + 1) (n + 1) (omega arith) in
-        let fitting : m.0 + wait timeout (failed_once_more t).failures ≤ last_moment =
-        within_all m.0 t.start.0 (waits timeout t.failures) (wait timeout (t.failures + 1)) (waits timeout (t.failures + 1))
-        (wait timeout (failed_once_more t).failures) (waits timeout (n + 1)) at sum span longest fits in
-        let due = some-due m (wait timeout (failed_once_more t).failures) led.0 led.1 fitting in (
-          due.0,
-          due_at m.0 t.start.0 (waits timeout t.failures) (wait timeout (t.failures + 1)) (waits timeout (t.failures + 1))
-              (wait timeout (failed_once_more t).failures) due.0.0 at sum span due.2,
-          led.2 ∙ ap (Sleeping (failed_once_more t)) due.1,
-        )
-      where
-        within_all : (m start w v x z all : ℕ) → m ≡ start + w → x ≡ w + v → z ≡ v → x ≤ all → start + all ≤ last_moment → m + z ≤ last_moment
-        within_all m start w v x z all a b c d e = omega arith
-
-        due_at : (m start w v x z d : ℕ) → m ≡ start + w → x ≡ w + v → z ≡ v → d ≡ m + z → d ≡ start + x
-        due_at m start w v x z d a b c e = omega arith
+    slept m t s at few fits l = grind (arith, nat_tests, waits-mono timeout t.failures n few, waits-more timeout t.failures, waits-mono timeout (t.failures + 1) (n + 1), some-due)
 
     -- what is left of the list after a poll before the due moment
     left_before : (p : Moment × Reply) (polls : List (Moment × Reply)) (latest start failures m : ℕ) → m ≡ p.0.0 → m < start + waits timeout failures
         → IsLeft latest start failures (p ∷ polls) → IsLeft m start failures polls
-    left_before p polls latest start failures m at before left =
-        record {
-          from = subst (λ (x : ℕ). IsFrom x polls) (sym at) left.falls.0;
-          falls = left.falls.1;
-          fails = left.fails.1;
-          polled = λ k least most.
-              elim (left.polled k least most) [
-                | inl here ↦ (let longer = waits-mono timeout failures k least in absurd (omega arith))
-                | inr there ↦ there
-              ];
-        }
+    left_before p polls latest start failures m at before left = grind (arith, nat_tests, waits-mono timeout failures)
 
     -- what is left of the list after the poll at the due moment
     left_after : (p : Moment × Reply) (polls : List (Moment × Reply)) (latest start failures m : ℕ) → m ≡ p.0.0 → m ≡ start + waits timeout failures
         → IsLeft latest start failures (p ∷ polls) → IsLeft m start (failures + 1) polls
-    left_after p polls latest start failures m at now left =
-        record {
-          from = subst (λ (x : ℕ). IsFrom x polls) (sym at) left.falls.0;
-          falls = left.falls.1;
-          fails = left.fails.1;
-          polled = λ k least most.
-              elim (left.polled k (omega arith) most) [
-                | inl here ↦ (let longer = waits-below timeout failures k half (omega arith) in absurd (omega arith))
-                | inr there ↦ there
-              ];
-        }
+    left_after p polls latest start failures m at now left = grind (arith, nat_tests, waits-below timeout failures)
 
     -- from a task that tries again after so many failures, a list that polls at each due moment
     -- leads to the bound

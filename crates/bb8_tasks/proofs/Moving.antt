@@ -1,5 +1,6 @@
 -- One poll of a replay in plain words: where it leaves the task, and how many attempts it begins.
-use Rattle.bb8_tasks.proofs.Words.{◌≡◌, ℕ, ◌-◌, ◌<◌, ◌≤◌, max, Bool, true, false, Option, Some, None, Result, Ok, ◌⊎◌, subst, ap, sym, ◌∙◌, refl, inl, inr, arith, cases_lt, Poll, Moment, Key, wait, Reply, OpenedAnswer, ReplenishStep, ReplenishAnswer, ReplenishStage, Start, Connecting, Acquiring, Sleeping, Done, Tries, outcome, begun, scripted, steady, Task, Polled, IsDue, failed_once_more, AfterOpened, AfterTaskAcquire, AfterTaskConnect, Enters, TaskConnects, TaskBegins, TaskProceeds}
+use Rattle.std.proofs.lemmas.Bool.Decides.{nat_tests}
+use Rattle.bb8_tasks.proofs.Words.{◌≡◌, ℕ, ◌-◌, ◌<◌, ◌≤◌, max, Bool, true, false, Option, Some, None, Result, Ok, ◌⊎◌, arith, Poll, Moment, Key, wait, Reply, ReplenishStep, ReplenishAnswer, ReplenishStage, Start, Connecting, Acquiring, Sleeping, Done, Tries, outcome, scripted, steady, Task, Polled, IsDue, failed_once_more, AfterTaskAcquire, AfterTaskConnect, Enters, TaskConnects, TaskBegins, TaskProceeds}
 use Rattle.futures.specs.declared.task.Poll.TheVariants.{Ready}
 use Rattle.bb8_core.specs.declared.answers.Looked.{Looked}
 use Rattle.bb8_tasks.specs.declared.backoff.Reply.TheVariants as replies
@@ -34,66 +35,34 @@ module _ (timeout : ℕ) (retry : Bool) (m : Moment) where
   module _ (approval : Key) where
     -- what is opened is entered
     entered : (x x' : Scripted) (next : Step) → Enters steady timeout retry approval m scripted tt x next x' → (next.stage ≡ Done) × (x' ≡ x)
-    entered x x' next (step, x1, (is, same), r) =
-        let at = subst (λ (s : Result (OpenedAnswer (Unit {0})) (Unit {0})). AfterOpened steady timeout retry approval m scripted s x1 next x') is r in
-        (at.1, at.2 ∙ same)
+    entered x x' next (step, x1, (is, same), r) = grind (arith, nat_tests)
 
     -- a poll of the preparation, which is ready
     prepared : (answer : Poll (Result (Unit {0}) (Unit {0}))) (tries : Tries) (x x' : Scripted) (next : Step) → answer ≡ Ready (Ok tt)
         → AfterTaskAcquire steady timeout retry approval m scripted answer tries tt tt x next x' → (next.stage ≡ Done) × (x' ≡ x)
-    prepared answer tries x x' next is r =
-        let (x1, same, at) = subst (λ (y : Poll (Result (Unit {0}) (Unit {0}))). AfterTaskAcquire steady timeout retry approval m scripted y tries tt tt x next x') is r in
-        let done = entered x1 x' next at in
-        (done.0, done.1 ∙ same)
+    prepared answer tries x x' next is r = grind (arith, nat_tests)
 
     -- a poll of the attempt leads where its reply says
     leads : (reply : Reply) (tries : Tries) (x x' : Scripted) (next : Step)
         → AfterTaskConnect steady timeout retry approval m scripted (outcome reply) tries tt x next x' → Leads reply tries next.stage × (x' ≡ x)
     leads replies.Pending tries x x' next r = (r.1, r.2)
-    leads replies.Ok tries x x' next (x1, ended, (acquiring, c, x2, begun_so, (answer, c1, acquiring1, x3, (is, same), r))) =
-        let done = prepared answer tries x3 x' next is r in
-        (done.0, done.1 ∙ same ∙ begun_so ∙ ended)
-    leads replies.Err tries x x' next (x1, ended, r) =
-        ((λ over. (r.0 over).3, λ on within. let s = r.1 on within in (s.0, s.1, s.2.1)), stays retry refl ∙ ended)
-      where
-        over : (retry ≡ false) ⊎ (timeout < m.0 - tries.start.0) → x' ≡ x1
-        over why = (r.0 why).1.1
-
-        stays : (b : Bool) → b ≡ retry → x' ≡ x1
-        stays false is = over (inl (sym is))
-        stays true is = elim (cases_lt timeout (m.0 - tries.start.0)) [ inl late ↦ over (inr late) | inr within ↦ (r.1 (sym is) within).2.2 ]
+    leads replies.Ok tries x x' next (x1, ended, (acquiring, c, x2, begun_so, (answer, c1, acquiring1, x3, (is, same), r))) = grind (arith, nat_tests)
+    leads replies.Err tries x x' next (x1, ended, r) = grind (arith, nat_tests)
 
     -- a poll of an attempt in progress
     connects : (reply : Reply) (tries : Tries) (connecting : Unit {0}) (x x' : Scripted) (next : Step) → x.reply ≡ reply
         → TaskConnects steady timeout retry approval m scripted tries connecting x next x' → Leads reply tries next.stage × (x' ≡ x)
-    connects reply tries connecting x x' next is (answer, connecting1, x1, (said, same), r) =
-        let told_so : answer ≡ outcome reply = said ∙ ap outcome is in
-        let after = subst (λ (y : Poll (Result (Unit {0}) (Unit {0}))). AfterTaskConnect steady timeout retry approval m scripted y tries tt x1 next x') told_so r in
-        let led = leads reply tries x1 x' next after in
-        (led.0, led.1 ∙ same)
+    connects reply tries connecting x x' next is (answer, connecting1, x1, (said, same), r) = grind (arith, nat_tests)
 
     -- a poll that begins an attempt
     begins : (reply : Reply) (tries : Tries) (x x' : Scripted) (next : Step) → x ≡ record { reply = reply; tries = 0 }
         → TaskBegins steady timeout retry approval m scripted tries x next x' → (x'.tries ≡ 1) × Leads reply tries next.stage
-    begins reply tries x x' next is (connecting, x1, begun_so, r) =
-        let told_so : x1.reply ≡ reply = ap (λ (y : Scripted). y.reply) (begun_so ∙ ap begun is) in
-        let went = connects reply tries connecting x1 x' next told_so r in
-        (ap (λ (y : Scripted). y.tries) (went.1 ∙ begun_so ∙ ap begun is), went.0)
+    begins reply tries x x' next is (connecting, x1, begun_so, r) = grind (arith, nat_tests)
 
     -- after the look, a poll of a task that has not ended
     turns : (reply : Reply) (stage : Standing) (x x' : Scripted) (next : Step) → x ≡ record { reply = reply; tries = 0 }
         → TaskProceeds steady timeout retry approval m scripted true stage x next x' → Moves reply stage x'.tries next.stage
-    turns reply Start x x' next is r = begins reply (record { start = m; failures = 0 }) x x' next is r
-    turns reply (Connecting tries connecting) x x' next is r =
-        let went = connects reply tries connecting x x' next (ap (λ (y : Scripted). y.reply) is) r in
-        (ap (λ (y : Scripted). y.tries) (went.1 ∙ is), went.0)
-    turns reply (Acquiring tries c acquiring) x x' next is (answer, c1, acquiring1, x1, (said, same), r) =
-        let done = prepared answer tries x1 x' next said r in
-        (ap (λ (y : Scripted). y.tries) (done.1 ∙ same ∙ is), done.0)
-    turns reply (Sleeping tries None) x x' next is r = (ap (λ (y : Scripted). y.tries) (r.2 ∙ is), r.1)
-    turns reply (Sleeping tries (Some due)) x x' next is r =
-        (λ now. begins reply tries x x' next is (r.0 now), λ later. let b = r.1 later in (ap (λ (y : Scripted). y.tries) (b.2 ∙ is), b.1))
-    turns reply Done x x' next is r = (ap (λ (y : Scripted). y.tries) (r.2 ∙ is), r.1)
+    turns reply stage x x' next is r = grind (arith, nat_tests)
 
 -- the moment of a poll: the greater of the clock's and the one of the poll before, but none is
 -- taken once the task has ended
@@ -111,24 +80,16 @@ module _ (timeout : ℕ) (retry : Bool) where
       → seen ≡ record { moment = p.0; alive = true } → x ≡ record { reply = p.1; tries = 0 } → t'.latest.0 ≡ max seen.moment.0 latest.0 → tried ≡ x'.tries
       → TaskProceeds steady timeout retry approval t'.latest scripted seen.alive stage x (record { answer = a; stage = t'.stage }) x'
       → (t'.latest.0 ≡ max p.0.0 latest.0) × Moves timeout retry t'.latest p.1 stage tried t'.stage
-  looked p approval latest stage tried a t' seen x x' is same at count r =
-      let next : Step = record { answer = a; stage = t'.stage } in
-      let alive = subst (λ (y : Looked). TaskProceeds steady timeout retry approval t'.latest scripted y.alive stage x next x') is r in
-      let moves = turns timeout retry t'.latest approval p.1 stage x x' next same alive in
-      (at ∙ ap (λ (y : Looked). max y.moment.0 latest.0) is, subst (λ (n : ℕ). Moves timeout retry t'.latest p.1 stage n t'.stage) (sym count) moves)
+  looked p approval latest stage tried a t' seen x x' is same at count r = grind (arith, nat_tests)
 
   -- one poll of a task in this state
   moved-at : (p : Moment × Reply) (approval : Key) (latest : Moment) (stage : Standing) (tried : ℕ) (a : ReplenishAnswer (Unit {0})) (t' : Task)
       → Polled timeout retry p (record { approval = approval; latest = latest; stage = stage }) tried a t' → Led p latest stage tried t'
   moved-at p approval latest Start tried a t' (x', (seen, x, (is, same), at, key, r), count) = looked p approval latest Start tried a t' seen x x' is same at count r
-  moved-at p approval latest (Connecting tries connecting) tried a t' (x', (seen, x, (is, same), at, key, r), count) =
-      looked p approval latest (Connecting tries connecting) tried a t' seen x x' is same at count r
-  moved-at p approval latest (Acquiring tries c acquiring) tried a t' (x', (seen, x, (is, same), at, key, r), count) =
-      looked p approval latest (Acquiring tries c acquiring) tried a t' seen x x' is same at count r
-  moved-at p approval latest (Sleeping tries due) tried a t' (x', (seen, x, (is, same), at, key, r), count) =
-      looked p approval latest (Sleeping tries due) tried a t' seen x x' is same at count r
-  moved-at p approval latest Done tried a t' (x', (told_so, stays, same), count) =
-      (ap (λ (y : Task). y.latest) stays, (count ∙ ap (λ (y : Scripted). y.tries) same, ap (λ (y : Task). y.stage) stays))
+  moved-at p approval latest (Connecting tries connecting) tried a t' (x', (seen, x, (is, same), at, key, r), count) = grind (arith, nat_tests)
+  moved-at p approval latest (Acquiring tries c acquiring) tried a t' (x', (seen, x, (is, same), at, key, r), count) = grind (arith, nat_tests)
+  moved-at p approval latest (Sleeping tries due) tried a t' (x', (seen, x, (is, same), at, key, r), count) = grind (arith, nat_tests)
+  moved-at p approval latest Done tried a t' (x', (told_so, stays, same), count) = grind (arith, nat_tests)
 
   -- one poll in plain words
   pub moved : (p : Moment × Reply) (t : Task) (tried : ℕ) (a : ReplenishAnswer (Unit {0})) (t' : Task) → Polled timeout retry p t tried a t' → Led p t.latest t.stage tried t'
@@ -136,9 +97,4 @@ module _ (timeout : ℕ) (retry : Bool) where
 
   -- a poll begins one attempt at most
   pub tried-most : (p : Moment × Reply) (t : Task) (tried : ℕ) (a : ReplenishAnswer (Unit {0})) (t' : Task) → Polled timeout retry p t tried a t' → tried ≤ 1
-  tried-most p t tried a t' r = most t.stage (moved p t tried a t' r).1
-    where
-      most : (stage : Standing) → Moves timeout retry t'.latest p.1 stage tried t'.stage → tried ≤ 1
-      most (Sleeping tries (Some due)) h =
-          elim (cases_lt t'.latest.0 due.0) [ inl later ↦ (let b = (h.1 later).0 in omega arith) | inr now ↦ (let b = (h.0 now).0 in omega arith) ]
-      most _ h = omega arith
+  tried-most p t tried a t' r = grind (arith, nat_tests)

@@ -1,4 +1,5 @@
 -- Runs of polls, one after another.
+use Rattle.std.proofs.lemmas.Bool.Decides.{nat_tests}
 use Rattle.bb8_tasks.proofs.Words.{◌≡◌, ℕ, suc, ◌+◌, Bool, List, [], ◌∷◌, ◌++◌, length, subst, ap, refl, arith, Moment, Reply, ReplenishAnswer, Task, Polled, Runs}
 
 module _ (timeout : ℕ) (retry : Bool) where
@@ -7,10 +8,8 @@ module _ (timeout : ℕ) (retry : Bool) where
       → (p : Moment × Reply) (a : ReplenishAnswer (Unit {0})) (tried : ℕ) (t'' : Task)
       → Runs timeout retry t polls answers tries t' → Polled timeout retry p t' tried a t''
       → Runs timeout retry t (polls ++ p ∷ []) (answers ++ a ∷ []) (tries + tried) t''
-  run_more t [] [] tries t' p a tried t'' r h =
-      (tried, t'', 0, subst (λ (x : Task). Polled timeout retry p x tried a t'') r.1 h, (refl, refl), omega arith)
-  run_more t (q ∷ polls) (b ∷ answers) tries t' p a tried t'' r h =
-      (r.0, r.1, r.2 + tried, r.3, run_more r.1 polls answers r.2 t' p a tried t'' r.4 h, omega arith)
+  run_more t [] [] tries t' p a tried t'' r h = (tried, t'', 0, subst (λ (x : Task). Polled timeout retry p x tried a t'') r.1 h, (refl, refl), omega arith)
+  run_more t (q ∷ polls) (b ∷ answers) tries t' p a tried t'' r h = grind (arith, nat_tests, run_more r.1 polls answers r.2 t' p a tried t'' r.4 h)
   run_more t _ _ tries t' p a tried t'' r h = absurd r
 
   -- a run has a result for each poll

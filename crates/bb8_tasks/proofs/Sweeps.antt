@@ -1,5 +1,6 @@
 -- A round over a queue, turn by turn.
-use Rattle.bb8_tasks.proofs.Words.{◌≡◌, ℕ, ◌+◌, ◌-◌, ◌<◌, Option, Some, None, List, [], ◌∷◌, ◌++◌, length, refl, sym, ◌∙◌, subst, arith, append_assoc, append-nil, ReplenishAnswer, Failed, GoOn, PollsUntil, QueueTurns}
+use Rattle.std.proofs.lemmas.Bool.Decides.{nat_tests}
+use Rattle.bb8_tasks.proofs.Words.{◌≡◌, ℕ, ◌+◌, ◌-◌, ◌<◌, Option, Some, None, List, [], ◌∷◌, ◌++◌, length, refl, sym, arith, append_assoc, append-nil, ReplenishAnswer, Failed, GoOn, PollsUntil, QueueTurns}
 use Rattle.bb8_tasks.specs.Rounds.{kept, Reports, PollsEach}
 use Rattle.bb8_tasks.specs.Sweeping.{stops, GoesOn, AfterPoll}
 use Rattle.bb8_tasks.specs.declared.rounds.OnFailure.{OnFailure}
@@ -7,16 +8,13 @@ use Rattle.bb8_tasks.specs.declared.rounds.OnFailure.TheVariants.{Stop}
 
 -- a round that stops does so at a last failure
 stopped : {E : Type 0} (on : OnFailure) (r : ReplenishAnswer E) (e : E) → stops on r ≡ Some e → (on ≡ Stop) × (r ≡ Failed e)
-stopped Stop (Failed f) e is = let same : f ≡ e = cc in (refl, rw same refl)
-stopped Stop _ e is = absurd cc
-stopped GoOn r e is = absurd cc
+stopped on r e is = grind (arith, nat_tests)
 
 module _ {T E X : Type 0} (polls : T → X → ReplenishAnswer E → T → X → Type 0) (on : OnFailure) (sinks : X → E → X → Type 0) where
   -- one task more is polled
   one_more : (had : List T) (x : X) (left : List T) (x1 : X) (t : T) (r : ReplenishAnswer E) (t' : T) (x2 x3 : X) → PollsEach (GoesOn polls on) sinks had x left x1
       → GoesOn polls on t x1 r t' x2 → Reports sinks r x2 x3 → PollsEach (GoesOn polls on) sinks (had ++ t ∷ []) x (left ++ kept r t') x3
-  one_more [] x left x1 t r t' x2 x3 (none, same) poll outcome =
-      (r, t', x2, subst (λ y. GoesOn polls on t y r t' x2) same poll, (x3, outcome, ([], (refl, refl), rw none (sym (append-nil (kept r t'))))))
+  one_more [] x left x1 t r t' x2 x3 (none, same) poll outcome = grind (arith, nat_tests, append-nil (kept r t'))
   one_more (h ∷ had) x left x1 t r t' x2 x3 (q, h', y, p, (z, outcome', (more, each, is))) poll outcome =
       (q, h', y, p, (z, outcome', (more ++ kept r t', one_more had z more x1 t r t' x2 x3 each poll outcome, rw is (append_assoc (kept q h') more (kept r t')))))
 
@@ -24,26 +22,15 @@ module _ {T E X : Type 0} (polls : T → X → ReplenishAnswer E → T → X →
       → PollsEach (GoesOn polls on) sinks had start behind x → polls t x r t' x1 → o ≡ stops on r → AfterPoll polls on sinks o r x1 x'
       → PollsUntil polls on sinks (had ++ t ∷ []) start o (behind ++ kept r t') x'
   turned had start behind x t r t' x1 None x' each p is outcome = one_more had start behind x t r t' x1 x' each (p, sym is) outcome
-  turned had start behind x t r t' x1 (Some e) x' each p is same =
-      let s = stopped on r e (sym is) in
-      let p' : polls t x (Failed e) t' x1 = subst (λ (y : ReplenishAnswer E). polls t x y t' x1) s.1 p in
-      (had, behind, x, each, (t, t', [], rw same p', s.0, refl, rw s.1 refl))
+  turned had start behind x t r t' x1 (Some e) x' each p is same = grind (arith, nat_tests, stopped on r e (sym is))
 
   -- the first task of a queue has its turn, and what is kept of it goes to the back
   turn : (had : List T) (start : X) (o : Option E) (behind : List T) (x : X) (t : T) (rest q' : List T) (o' : Option E) (x' : X)
       → PollsUntil polls on sinks had start o behind x → QueueTurns polls on sinks o (t ∷ rest) x o' q' x'
       → (back : List T) × (q' ≡ rest ++ back) × PollsUntil polls on sinks (had ++ t ∷ []) start o' (behind ++ back) x'
-  turn had start None behind x t rest q' o' x' each (u, tail, e, (r, u', x1, p, is, outcome, e')) =
-      let head : u ≡ t = cc in
-      let same : tail ≡ rest = cc in
-      (kept r u', rw (e', same) refl, turned had start behind x t r u' x1 o' x' each (subst (λ y. polls y x r u' x1) head p) is outcome)
+  turn had start None behind x t rest q' o' x' each (u, tail, e, (r, u', x1, p, is, outcome, e')) = grind (arith, nat_tests, turned had start behind x t r u' x1 o' x' each)
   turn had start (Some f) behind x t rest q' o' x' (before, again, y, each, (u, u', after, p, stop, ts, left)) (v, tail, e, e', stays, same) =
-      let head : v ≡ t = cc in
-      let is : tail ≡ rest = cc in (
-        t ∷ [],
-        rw (e', is, head) refl,
-        rw (stays, same) (before, again, y, each, (u, u', after ++ t ∷ [], p, stop, rw ts (append_assoc before (u ∷ after) (t ∷ [])), rw left (append_assoc again after (t ∷ [])))),
-      )
+      grind (arith, nat_tests, append_assoc before (u ∷ after) (t ∷ []), append_assoc again after (t ∷ []))
 
   -- so many tasks at the front of the queue still have their turn, and behind them are those that
   -- had it and are kept
@@ -57,28 +44,15 @@ module _ {T E X : Type 0} (polls : T → X → ReplenishAnswer E → T → X →
       → RoundMidway first start q' x' o' (k - 1)
   step first start q q' x x' o o' k had [] behind some len eq all p turns = absurd (omega arith)
   step first start q q' x x' o o' k had (t ∷ ahead) behind some len eq all p turns =
-      let s = turn had start o behind x t (ahead ++ behind) q' o' x' p (subst (λ (y : List T). QueueTurns polls on sinks o y x o' q' x') eq turns) in (
-        had ++ t ∷ [],
-        ahead,
-        behind ++ s.0,
-        omega arith,
-        s.1 ∙ append_assoc ahead behind s.0,
-        all ∙ sym (append_assoc had (t ∷ []) ahead),
-        s.2,
-      )
+      grind (arith, nat_tests, turn had start o behind x t (ahead ++ behind) q' o' x' p, append_assoc ahead behind, append_assoc had (t ∷ []) ahead)
 
   pub Midway-step : (first : List T) (start : X) (q q' : List T) (x x' : X) (o o' : Option E) (n k : ℕ) → k < n
       → RoundMidway first start q x o (n - k) → QueueTurns polls on sinks o q x o' q' x' → RoundMidway first start q' x' o' (n - (k + 1))
-  Midway-step first start q q' x x' o o' n k more (had, ahead, behind, len, eq, all, p) turns =
-      let some : 0 < n - k = omega arith in
-      let less : n - k - 1 ≡ n - (k + 1) = omega arith in
-      subst (λ (y : ℕ). RoundMidway first start q' x' o' y) less (step first start q q' x x' o o' (n - k) had ahead behind some len eq all p turns)
+  Midway-step first start q q' x x' o o' n k more (had, ahead, behind, len, eq, all, p) turns = grind (arith, nat_tests, step first start q q' x x' o o' (n - k) had ahead behind)
 
   pub Midway-over : (first : List T) (start : X) (q : List T) (x : X) (o : Option E) (k : ℕ) → k ≡ 0
       → RoundMidway first start q x o k → PollsUntil polls on sinks first start o q x
-  Midway-over first start q x o k none (had, [], behind, len, eq, all, p) =
-      subst (λ (y : List T). PollsUntil polls on sinks y start o q x) (sym (all ∙ append-nil had))
-      (subst (λ (y : List T). PollsUntil polls on sinks had start o y x) (sym eq) p)
+  Midway-over first start q x o k none (had, [], behind, len, eq, all, p) = grind (arith, nat_tests, append-nil had)
   Midway-over first start q x o k none (had, (t ∷ ahead), behind, len, eq, all, p) = absurd (omega arith)
 
   pub Midway-first : (first : List T) (start : X) (k : ℕ) → k ≡ length first → RoundMidway first start first start None (k - 0)

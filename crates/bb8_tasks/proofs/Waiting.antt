@@ -1,5 +1,6 @@
 -- The waits of the back-off, as plain numbers.
-use Rattle.bb8_tasks.proofs.Words.{◌≡◌, ℕ, zero, suc, ◌+◌, ◌-◌, ◌*◌, ◌/◌, ◌^◌, ◌<◌, ◌≤◌, inl, inr, lit<, subst, sym, ap, refl, add-one, arith, pow-le-pow_right, min-eq_left, one-le-pow, cases_lt, wait, waits, IsMostWaits}
+use Rattle.std.proofs.lemmas.Bool.Decides.{nat_tests}
+use Rattle.bb8_tasks.proofs.Words.{◌≡◌, ℕ, zero, suc, ◌+◌, ◌-◌, ◌*◌, ◌/◌, ◌^◌, ◌<◌, ◌≤◌, inl, inr, lit<, subst, sym, refl, add-one, arith, pow-le-pow_right, min-eq_left, one-le-pow, cases_lt, wait, waits, IsMostWaits}
 
 -- from the 66th failure on the wait is half the timeout
 pub wait-long : (t k : ℕ) → t < 2 ^ 64 * 1_000_000_000 → 66 ≤ k → wait t k ≡ t / 2
@@ -28,23 +29,11 @@ waits-mono t i (suc j) le =
 
 -- more waits are longer
 pub waits-below : (t i j : ℕ) → 0 < t / 2 → i < j → waits t i < waits t j
-waits-below t i j half below =
-    let more = waits-mono t (i + 1) j (omega arith) in
-    let sum = waits-more t i in
-    let above = wait-above t (i + 1) half in
-    omega arith
+waits-below t i j half below = grind (arith, nat_tests, waits-mono t (i + 1) j, waits-more t i, wait-above t (i + 1) half)
 
 -- four waits of half the timeout are past it
 waits-past : (t k : ℕ) → t < 2 ^ 64 * 1_000_000_000 → 0 < t / 2 → 66 ≤ k → t < waits t (k + 1 + 1 + 1 + 1)
-waits-past t k fits half far =
-    let a = waits-more t k in let b = waits-more t (k + 1) in let c = waits-more t (k + 1 + 1) in let d = waits-more t (k + 1 + 1 + 1) in
-    let p = wait-long t (k + 1) fits (omega arith) in let q = wait-long t (k + 1 + 1) fits (omega arith) in
-    let r = wait-long t (k + 1 + 1 + 1) fits (omega arith) in let s = wait-long t (k + 1 + 1 + 1 + 1) fits (omega arith) in
-    four (waits t k) (waits t (k + 1)) (waits t (k + 1 + 1)) (waits t (k + 1 + 1 + 1)) (waits t (k + 1 + 1 + 1 + 1))
-    (wait t (k + 1)) (wait t (k + 1 + 1)) (wait t (k + 1 + 1 + 1)) (wait t (k + 1 + 1 + 1 + 1)) a b c d p q r s
-  where
-    four : (v w x y z e f g h : ℕ) → w ≡ v + e → x ≡ w + f → y ≡ x + g → z ≡ y + h → e ≡ t / 2 → f ≡ t / 2 → g ≡ t / 2 → h ≡ t / 2 → t < z
-    four v w x y z e f g h a b c d p q r s = omega arith
+waits-past t k fits half far = grind (arith, nat_tests, waits-more, wait-long)
 
 -- seventy waits are past every timeout that a span of time can be
 pub waits-seventy : (t n : ℕ) → t < 2 ^ 64 * 1_000_000_000 → 0 < t / 2 → 70 ≤ n → t < waits t n
@@ -52,30 +41,20 @@ waits-seventy t n fits half many = subst (λ (x : ℕ). t < waits t x) (omega ar
 
 -- the most waits whose sum is at most the timeout are below seventy
 pub most-below : (t n : ℕ) → t < 2 ^ 64 * 1_000_000_000 → 0 < t / 2 → waits t n ≤ t → n < 70
-most-below t n fits half within =
-    elim (cases_lt n 70) [ inl below ↦ below | inr many ↦ (let past = waits-seventy t n fits half many in absurd (omega arith)) ]
+most-below t n fits half within = grind (arith, nat_tests, waits-seventy t n fits half)
 
 -- waits whose sum is at most the timeout are at most the most
 pub at_most : (t n k : ℕ) → t < waits t (suc n) → waits t k ≤ t → k ≤ n
-at_most t n k past within =
-    elim (cases_lt n k) [ inl more ↦ (let longer = waits-mono t (suc n) k (omega arith) in absurd (omega arith)) | inr less ↦ less ]
+at_most t n k past within = grind (arith, nat_tests, waits-mono t (suc n) k)
 
 -- waits whose sum is past the timeout are more than the most
 pub past_most : (t n k : ℕ) → waits t n ≤ t → t < waits t k → n < k
-past_most t n k within past =
-    elim (cases_lt n k) [ inl more ↦ more | inr less ↦ (let longer = waits-mono t k n less in absurd (omega arith)) ]
+past_most t n k within past = grind (arith, nat_tests, waits-mono t k n)
 
 -- looking from k on, at so many sums, the first that is past the timeout is found
 most_from : (t k fuel : ℕ) → waits t k ≤ t → t < waits t (k + fuel) → (n : ℕ) × IsMostWaits t n
-most_from t k zero within past = absurd (let same = ap (waits t) (add-zero k) in omega arith)
-  where
-    add-zero : (k : ℕ) → k + 0 ≡ k
-    add-zero k = omega arith
-most_from t k (suc fuel) within past =
-    elim (cases_lt t (waits t (suc k))) [
-      | inl found ↦ (k, record { within = within; past = found })
-      | inr more ↦ most_from t (suc k) fuel more (subst (λ (x : ℕ). t < waits t x) (omega arith) past)
-    ]
+most_from t k zero within past = grind (arith, nat_tests)
+most_from t k (suc fuel) within past = grind (arith, nat_tests, most_from t (suc k) fuel)
 
 -- there are most waits whose sum is at most the timeout
 pub most_waits : (t : ℕ) → t < 2 ^ 64 * 1_000_000_000 → 0 < t / 2 → (n : ℕ) × IsMostWaits t n

@@ -20,7 +20,7 @@ pub use connection::Counted;
 pub use customizer::HostileCustomizer;
 pub use gauge::{Gauge, Token};
 pub use get_counts::GetCounts;
-pub use harness::{Gauges, Harness, HostileDriver, HostilePool};
+pub use harness::{Gauges, Harness, HostilePool};
 pub use manager::HostileManager;
 pub use sink::HostileSink;
 pub use source::RandomSource;

@@ -1,5 +1,5 @@
 -- Laws of lists whose elements have numbers in a row.
-use Rattle.std.proofs.Common.{◌≡◌, ◌≢◌, ◌⊎◌, ℕ, zero, suc, ◌+◌, ◌<◌, ◌≤◌, Bool, ◌&&◌, ltb, lt-ltb, le-ltb, true, false, cond, not, eqb, List, [], ◌∷◌, ◌++◌, length, Option, Some, None, filter, map, option_and_then, slice_get, refl, sym, ap, ◌∙◌, inl, inr, ⊎_elim, arith, append-nil, ne_eqb, eq-eqb, eqb-true, length-append, subst, nat_cmp}
+use Rattle.std.proofs.Common.{◌≡◌, ◌≢◌, ◌⊎◌, ℕ, zero, suc, ◌+◌, ◌<◌, ◌≤◌, Bool, ◌&&◌, ltb, lt-ltb, le-ltb, true, false, cond, not, eqb, List, [], ◌∷◌, ◌++◌, length, Option, Some, None, filter, map, option_and_then, slice_get, refl, sym, ap, ◌∙◌, inl, inr, ⊎_elim, arith, append-nil, ne_eqb, eq-eqb, eqb-true, length-append, nat_cmp}
 use Rattle.std.proofs.lemmas.Bool.Decides.{eqb_tells, nat_tests}
 use Rattle.std.proofs.lemmas.List.Elements.{filter-append}
 use Rattle.std.specs.Ordering.{eq_by_cmp}
@@ -38,74 +38,36 @@ get_joined (x ∷ xs) ys (suc j) k h = get_joined xs ys j k h
 module _ {R : Type 0} where
   pub at-below : (rs : List R) (n q : ℕ) → q < n → at n rs q ≡ None
   at-below [] n q h = refl
-  at-below (r ∷ rs) n q h =
-      let e : eqb q n ≡ false = ne_eqb q n (λ s. omega arith) in
-      rw e (at-below rs (suc n) q (omega arith))
+  at-below (r ∷ rs) n q h = grind (arith, nat_tests, at-below rs (suc n) q)
 
   pub at-past : (rs : List R) (n q : ℕ) → n + length rs ≤ q → at n rs q ≡ None
   at-past [] n q h = refl
-  at-past (r ∷ rs) n q h =
-      let e : eqb q n ≡ false = ne_eqb q n (λ s. omega arith) in
-      rw e (at-past rs (suc n) q (omega arith))
+  at-past (r ∷ rs) n q h = grind (arith, nat_tests, at-past rs (suc n) q)
 
   pub at-append : (rs : List R) (r : R) (n q : ℕ) → at n (rs ++ r ∷ []) q ≡ cond (eqb q (n + length rs)) (Some r) (at n rs q)
   at-append [] r n q = let e : n + 0 ≡ n = omega arith in rw e refl
-  at-append (x ∷ rs) r n q =
-      let e : suc n + length rs ≡ n + suc (length rs) = omega arith in
-      let ih : at (suc n) (rs ++ r ∷ []) q ≡ cond (eqb q (n + suc (length rs))) (Some r) (at (suc n) rs q) =
-      subst (λ (m : ℕ). at (suc n) (rs ++ r ∷ []) q ≡ cond (eqb q m) (Some r) (at (suc n) rs q)) e (at-append rs r (suc n) q) in
-      ⊎_elim
-      (λ (t : (eqb q n ≡ true) × (q ≡ n)).
-      let no : eqb q (n + suc (length rs)) ≡ false = ne_eqb q (n + suc (length rs)) (λ s. omega arith) in
-      rw (t.0, no) refl)
-      (λ (t : (eqb q n ≡ false) × (q ≢ n)). rw t.0 ih)
-      (same_or_not q n)
+  at-append (x ∷ rs) r n q = grind (arith, nat_tests, at-append rs r (suc n) q)
 
   pub at-change_same : (rs : List R) (n k : ℕ) (new old : R) → at n rs k ≡ Some old → at n (change n k new rs) k ≡ Some new
   at-change_same [] n k new old h = cc
-  at-change_same (r ∷ rs) n k new old h =
-      ⊎_elim
-      (λ (t : (eqb k n ≡ true) × (k ≡ n)). rw t.0 refl)
-      (λ (t : (eqb k n ≡ false) × (k ≢ n)). rw t.0 (at-change_same rs (suc n) k new old (rw t.0 at h)))
-      (same_or_not k n)
+  at-change_same (r ∷ rs) n k new old h = grind (arith, nat_tests, at-change_same rs (suc n) k new old)
 
   pub at-change_other : (rs : List R) (n k q : ℕ) (new : R) → q ≢ k → at n (change n k new rs) q ≡ at n rs q
   at-change_other [] n k q new h = refl
-  at-change_other (r ∷ rs) n k q new h =
-      ⊎_elim
-      (λ (t : (eqb q n ≡ true) × (q ≡ n)).
-      let no : eqb k n ≡ false = ne_eqb k n (λ s. omega arith) in
-      rw (t.0, no) refl)
-      (λ (t : (eqb q n ≡ false) × (q ≢ n)). rw t.0 (at-change_other rs (suc n) k q new h))
-      (same_or_not q n)
+  at-change_other (r ∷ rs) n k q new h = grind (arith, nat_tests, at-change_other rs (suc n) k q new)
 
   pub change_below : (rs : List R) (n k : ℕ) (new : R) → k < n → change n k new rs ≡ rs
   change_below [] n k new h = refl
-  change_below (r ∷ rs) n k new h =
-      let no : eqb k n ≡ false = ne_eqb k n (λ s. omega arith) in
-      rw no (ap (λ (t : List R). r ∷ t) (change_below rs (suc n) k new (omega arith)))
+  change_below (r ∷ rs) n k new h = grind (arith, nat_tests, change_below rs (suc n) k new)
 
   pub update_below : (rs : List R) (n k : ℕ) (f : R → R) → k < n → update n k f rs ≡ rs
   update_below [] n k f h = refl
-  update_below (r ∷ rs) n k f h =
-      let no : eqb k n ≡ false = ne_eqb k n (λ s. omega arith) in
-      rw no (ap (λ (t : List R). r ∷ t) (update_below rs (suc n) k f (omega arith)))
+  update_below (r ∷ rs) n k f h = grind (arith, nat_tests, update_below rs (suc n) k f)
 
   -- where the element is known, so is the one that it is changed to
   pub update_is : (rs : List R) (n k : ℕ) (f : R → R) (old : R) → at n rs k ≡ Some old → update n k f rs ≡ change n k (f old) rs
   update_is [] n k f old h = refl
-  update_is (r ∷ rs) n k f old h =
-      ⊎_elim
-      (λ (t : (eqb k n ≡ true) × (k ≡ n)).
-      let is : Some r ≡ Some old = rw t.0 at h in
-      let same : r ≡ old = cc in
-      let kept : update (suc n) k f rs ≡ rs = update_below rs (suc n) k f (omega arith) in
-      let kept_too : change (suc n) k (f old) rs ≡ rs = change_below rs (suc n) k (f old) (omega arith) in
-      rw (t.0, kept, kept_too, same) refl)
-      (λ (t : (eqb k n ≡ false) × (k ≢ n)).
-      let ih : update (suc n) k f rs ≡ change (suc n) k (f old) rs = update_is rs (suc n) k f old (rw t.0 at h) in
-      rw (t.0, ih) refl)
-      (same_or_not k n)
+  update_is (r ∷ rs) n k f old h = grind (arith, nat_tests, update_is rs (suc n) k f old, update_below rs (suc n) k f, change_below rs (suc n) k (f old))
 
   pub length-change : (rs : List R) (n k : ℕ) (new : R) → length (change n k new rs) ≡ length rs
   length-change [] n k new = refl
@@ -117,17 +79,7 @@ module _ {R : Type 0} where
 
   pub tally-change : (p : R → Bool) (rs : List R) (n k : ℕ) (new old : R) → at n rs k ≡ Some old → tally p (change n k new rs) + one (p old) ≡ tally p rs + one (p new)
   tally-change p [] n k new old h = cc
-  tally-change p (r ∷ rs) n k new old h =
-      ⊎_elim
-      (λ (t : (eqb k n ≡ true) × (k ≡ n)).
-      let is : Some r ≡ Some old = rw t.0 at h in
-      let same : r ≡ old = cc in
-      let rest : change (suc n) k new rs ≡ rs = change_below rs (suc n) k new (omega arith) in
-      rw (t.0, rest, same) (omega arith))
-      (λ (t : (eqb k n ≡ false) × (k ≢ n)).
-      let ih : tally p (change (suc n) k new rs) + one (p old) ≡ tally p rs + one (p new) = tally-change p rs (suc n) k new old (rw t.0 at h) in
-      rw t.0 (omega arith))
-      (same_or_not k n)
+  tally-change p (r ∷ rs) n k new old h = grind (arith, nat_tests, tally-change p rs (suc n) k new old, change_below rs (suc n) k new)
 
   pub tally-append : (p : R → Bool) (rs : List R) (r : R) → tally p (rs ++ r ∷ []) ≡ tally p rs + one (p r)
   tally-append p [] r = omega arith
@@ -136,82 +88,27 @@ module _ {R : Type 0} where
   -- the number k no longer passes
   pub numbers-change_off : (p : R → Bool) (rs : List R) (n k : ℕ) (new : R) → p new ≡ false → numbers p n (change n k new rs) ≡ filter (λ q. not (eqb q k)) (numbers p n rs)
   numbers-change_off p [] n k new h = refl
-  numbers-change_off p (r ∷ rs) n k new h =
-      let ih : numbers p (suc n) (change (suc n) k new rs) ≡ filter (λ q. not (eqb q k)) (numbers p (suc n) rs) = numbers-change_off p rs (suc n) k new h in
-      ⊎_elim
-      (λ (t : (eqb k n ≡ true) × (k ≡ n)).
-      let turned : eqb n k ≡ true = eq-eqb n k (sym t.1) in
-      let goal : (b : Bool) → numbers p (suc n) (change (suc n) k new rs) ≡ filter (λ q. not (eqb q k)) (cond b (n ∷ numbers p (suc n) rs) (numbers p (suc n) rs)) =
-      elim [ true ↦ rw turned ih | false ↦ ih ] in
-      rw (t.0, h) (goal (p r)))
-      (λ (t : (eqb k n ≡ false) × (k ≢ n)).
-      let turned : eqb n k ≡ false = ne_eqb n k (λ e. t.1 (sym e)) in
-      let goal : (b : Bool) → cond b (n ∷ numbers p (suc n) (change (suc n) k new rs))
-      (numbers p (suc n) (change (suc n) k new rs)) ≡ filter (λ q. not (eqb q k))
-      (cond b (n ∷ numbers p (suc n) rs) (numbers p (suc n) rs)) =
-      elim [ true ↦ rw turned (ap (λ (t : List ℕ). n ∷ t) ih) | false ↦ ih ] in
-      rw t.0 (goal (p r)))
-      (same_or_not k n)
+  numbers-change_off p (r ∷ rs) n k new h = grind (arith, nat_tests, numbers-change_off p rs (suc n) k new)
 
   -- nothing passes but the number k
   pub numbers-change_on : (p : R → Bool) (rs : List R) (n k : ℕ) (new old : R) → numbers p n rs ≡ [] → at n rs k ≡ Some old → p new ≡ true → numbers p n (change n k new rs) ≡ k ∷ []
   numbers-change_on p [] n k new old none h pass = cc
-  numbers-change_on p (r ∷ rs) n k new old none h pass =
-      ⊎_elim
-      (λ (w : (p r ≡ true) × (n ∷ numbers p (suc n) rs ≡ [])). cc)
-      (λ (w : (p r ≡ false) × (numbers p (suc n) rs ≡ [])).
-      ⊎_elim
-      (λ (t : (eqb k n ≡ true) × (k ≡ n)).
-      let rest : change (suc n) k new rs ≡ rs = change_below rs (suc n) k new (omega arith) in
-      rw (t.0, pass, rest, w.1, t.1) refl)
-      (λ (t : (eqb k n ≡ false) × (k ≢ n)).
-      let ih : numbers p (suc n) (change (suc n) k new rs) ≡ k ∷ [] = numbers-change_on p rs (suc n) k new old w.1 (rw t.0 at h) pass in
-      rw (t.0, w.0) ih)
-      (same_or_not k n))
-      (passes (p r) none)
-    where
-      passes : (b : Bool) → cond b (n ∷ numbers p (suc n) rs) (numbers p (suc n) rs) ≡ [] → ((b ≡ true) × (n ∷ numbers p (suc n) rs ≡ [])) ⊎ ((b ≡ false) × (numbers p (suc n) rs ≡ []))
-      passes true e = inl (refl, e)
-      passes false e = inr (refl, e)
+  numbers-change_on p (r ∷ rs) n k new old none h pass = grind (arith, nat_tests, numbers-change_on p rs (suc n) k new old, change_below rs (suc n) k new)
 
   -- the number k passes as before
   pub numbers-change_kept : (p : R → Bool) (rs : List R) (n k : ℕ) (new old : R) → at n rs k ≡ Some old → p new ≡ p old → numbers p n (change n k new rs) ≡ numbers p n rs
   numbers-change_kept p [] n k new old h e = refl
-  numbers-change_kept p (r ∷ rs) n k new old h e =
-      ⊎_elim
-      (λ (t : (eqb k n ≡ true) × (k ≡ n)).
-      let is : Some r ≡ Some old = rw t.0 at h in
-      let same : r ≡ old = cc in
-      let rest : change (suc n) k new rs ≡ rs = change_below rs (suc n) k new (omega arith) in
-      rw (t.0, rest, e, same) refl)
-      (λ (t : (eqb k n ≡ false) × (k ≢ n)).
-      let ih : numbers p (suc n) (change (suc n) k new rs) ≡ numbers p (suc n) rs = numbers-change_kept p rs (suc n) k new old (rw t.0 at h) e in
-      rw (t.0, ih) refl)
-      (same_or_not k n)
+  numbers-change_kept p (r ∷ rs) n k new old h e = grind (arith, nat_tests, numbers-change_kept p rs (suc n) k new old, change_below rs (suc n) k new)
 
   pub numbers-append : (p : R → Bool) (rs : List R) (r : R) (n : ℕ) → numbers p n (rs ++ r ∷ []) ≡ numbers p n rs ++ cond (p r) ((n + length rs) ∷ []) []
   numbers-append p [] r n = let e : n + 0 ≡ n = omega arith in rw e refl
-  numbers-append p (x ∷ rs) r n =
-      let e : suc n + length rs ≡ n + suc (length rs) = omega arith in
-      let ih : numbers p (suc n) (rs ++ r ∷ []) ≡ numbers p (suc n) rs
-      ++ cond (p r) ((n + suc (length rs)) ∷ []) [] =
-      subst (λ (m : ℕ). numbers p (suc n) (rs ++ r ∷ []) ≡ numbers p (suc n) rs ++ cond (p r) (m ∷ []) []) e
-      (numbers-append p rs r (suc n)) in
-      let goal : (b : Bool) → cond b (n ∷ numbers p (suc n) (rs ++ r ∷ [])) (numbers p (suc n) (rs ++ r ∷ [])) ≡ cond b
-      (n ∷ numbers p (suc n) rs) (numbers p (suc n) rs) ++ cond (p r) ((n + suc (length rs)) ∷ []) [] =
-      elim [ true ↦ ap (λ (t : List ℕ). n ∷ t) ih | false ↦ ih ] in
-      goal (p x)
+  numbers-append p (x ∷ rs) r n = grind (arith, nat_tests, numbers-append p rs r (suc n))
 
   -- ---- who is in a list
 
   pub numbers_from : (p : R → Bool) (rs : List R) (n j k : ℕ) → slice_get (numbers p n rs) j ≡ Some k → n ≤ k
   numbers_from p [] n j k h = cc
-  numbers_from p (r ∷ rs) n j k h = go (λ i e. numbers_from p rs (suc n) i k e) (p r) j h
-    where
-      go : ((i : ℕ) → slice_get (numbers p (suc n) rs) i ≡ Some k → suc n ≤ k) → (b : Bool) (j : ℕ) → slice_get (cond b (n ∷ numbers p (suc n) rs) (numbers p (suc n) rs)) j ≡ Some k → n ≤ k
-      go ih false j h = let l : suc n ≤ k = ih j h in omega arith
-      go ih true zero h = let e : Some n ≡ Some k = h in let same : n ≡ k = cc in omega arith
-      go ih true (suc j) h = let l : suc n ≤ k = ih j h in omega arith
+  numbers_from p (r ∷ rs) n j k h = grind (arith, nat_tests, numbers_from p rs (suc n))
 
   pub numbers_member : (p : R → Bool) (rs : List R) (n j k : ℕ) → slice_get (numbers p n rs) j ≡ Some k → (r : R) × (at n rs k ≡ Some r) × (p r ≡ true)
   numbers_member p [] n j k h = cc
@@ -219,40 +116,19 @@ module _ {R : Type 0} where
     where
       later : ((i : ℕ) → slice_get (numbers p (suc n) rs) i ≡ Some k → (r : R) × (at (suc n) rs k ≡ Some r) × (p r ≡ true)) → (j : ℕ)
           → slice_get (numbers p (suc n) rs) j ≡ Some k → (x : R) × (at n (r ∷ rs) k ≡ Some x) × (p x ≡ true)
-      later ih j h =
-          let m : (x : R) × (at (suc n) rs k ≡ Some x) × (p x ≡ true) = ih j h in
-          let l : suc n ≤ k = numbers_from p rs (suc n) j k h in
-          let other : eqb k n ≡ false = ne_eqb k n (λ s. omega arith) in
-          (m.0, rw other m.1, m.2)
+      later ih j h = grind (arith, nat_tests, numbers_from p rs (suc n) j k)
 
       go : ((i : ℕ) → slice_get (numbers p (suc n) rs) i ≡ Some k → (r : R) × (at (suc n) rs k ≡ Some r) × (p r ≡ true)) → (b : Bool)
           → p r ≡ b → (j : ℕ) → slice_get (cond b (n ∷ numbers p (suc n) rs) (numbers p (suc n) rs)) j ≡ Some k → (x : R)
           × (at n (r ∷ rs) k ≡ Some x) × (p x ≡ true)
       go ih false e j h = later ih j h
-      go ih true e zero h =
-          let is : Some n ≡ Some k = h in
-          let same : n ≡ k = cc in
-          let here : eqb k n ≡ true = eq-eqb k n (sym same) in
-          (r, rw here refl, e)
+      go ih true e zero h = grind (arith, nat_tests)
       go ih true e (suc j) h = later ih j h
 
   -- the first number no longer passes
   pub numbers-change_head : (p : R → Bool) (rs : List R) (n k : ℕ) (rest : List ℕ) (new : R) → numbers p n rs ≡ k ∷ rest → p new ≡ false → numbers p n (change n k new rs) ≡ rest
   numbers-change_head p [] n k rest new h off = cc
-  numbers-change_head p (r ∷ rs) n k rest new h off = go (λ e. numbers-change_head p rs (suc n) k rest new e off) (p r) refl h
-    where
-      go : (numbers p (suc n) rs ≡ k ∷ rest → numbers p (suc n) (change (suc n) k new rs) ≡ rest) → (b : Bool) → p r ≡ b
-          → cond b (n ∷ numbers p (suc n) rs) (numbers p (suc n) rs) ≡ k ∷ rest → numbers p n (change n k new (r ∷ rs)) ≡ rest
-      go ih true e h =
-          let same : k ≡ n = cc in
-          let tail : numbers p (suc n) rs ≡ rest = cc in
-          let here : eqb k n ≡ true = eq-eqb k n same in
-          let below : change (suc n) k new rs ≡ rs = change_below rs (suc n) k new (omega arith) in
-          rw (here, off, below) tail
-      go ih false e h =
-          let l : suc n ≤ k = numbers_from p rs (suc n) 0 k (ap (λ (t : List ℕ). slice_get t 0) h) in
-          let other : eqb k n ≡ false = ne_eqb k n (λ s. omega arith) in
-          rw (other, e) (ih h)
+  numbers-change_head p (r ∷ rs) n k rest new h off = grind (arith, nat_tests, numbers-change_head p rs (suc n) k rest new, change_below rs (suc n) k new, numbers_from p rs (suc n) 0 k)
 
   -- ---- by position
 
@@ -271,10 +147,7 @@ module _ {R : Type 0} where
   pub in_order-change_kept : (stands : ℕ → R → Bool) (rs : List R) (n k : ℕ) (new old : R) → at n rs k ≡ Some old → (m : ℕ)
       → ((p : ℕ) → p < m → stands p new ≡ stands p old) → in_order stands n (change n k new rs) m ≡ in_order stands n rs m
   in_order-change_kept stands rs n k new old h zero same = refl
-  in_order-change_kept stands rs n k new old h (suc m) same =
-      let ih : in_order stands n (change n k new rs) m ≡ in_order stands n rs m = in_order-change_kept stands rs n k new old h m (λ p l. same p (omega arith)) in
-      let here : numbers (stands m) n (change n k new rs) ≡ numbers (stands m) n rs = numbers-change_kept (stands m) rs n k new old h (same m (omega arith)) in
-      rw (ih, here) refl
+  in_order-change_kept stands rs n k new old h (suc m) same = grind (arith, nat_tests, in_order-change_kept stands rs n k new old h m, numbers-change_kept (stands m) rs n k new old h)
 
   pub in_order-append : (stands : ℕ → R → Bool) (rs : List R) (n : ℕ) (new : R) → ((p : ℕ) → stands p new ≡ false) → (m : ℕ) → in_order stands n (rs ++ new ∷ []) m ≡ in_order stands n rs m
   in_order-append stands rs n new off zero = refl
@@ -294,21 +167,13 @@ module _ {R : Type 0} where
 
   pub before-update : (stands : ℕ → R → Bool) (rs : List R) (n k : ℕ) (f : R → R) (m : ℕ) → Before stands m rs → ((r : R) (p : ℕ) → stands p (f r) ≡ true → p < m) → Before stands m (update n k f rs)
   before-update stands [] n k f m b h = tt
-  before-update stands (r ∷ rs) n k f m b h = (pick (eqb k n), before-update stands rs (suc n) k f m b.1 h)
-    where
-      pick : (t : Bool) (p : ℕ) → stands p (cond t (f r) r) ≡ true → p < m
-      pick true = h r
-      pick false = b.0
+  before-update stands (r ∷ rs) n k f m b h = grind (arith, nat_tests, before-update stands rs (suc n) k f m b.1)
 
   -- an element that is changed is below m, where it was before
   pub before-update_kept : (stands : ℕ → R → Bool) (rs : List R) (n k : ℕ) (f : R → R) (m : ℕ) → Before stands m rs
       → ((r : R) → ((p : ℕ) → stands p r ≡ true → p < m) → (p : ℕ) → stands p (f r) ≡ true → p < m) → Before stands m (update n k f rs)
   before-update_kept stands [] n k f m b h = tt
-  before-update_kept stands (r ∷ rs) n k f m b h = (pick (eqb k n), before-update_kept stands rs (suc n) k f m b.1 h)
-    where
-      pick : (t : Bool) (p : ℕ) → stands p (cond t (f r) r) ≡ true → p < m
-      pick true = h r b.0
-      pick false = b.0
+  before-update_kept stands (r ∷ rs) n k f m b h = grind (arith, nat_tests, before-update_kept stands rs (suc n) k f m b.1)
 
   pub before-map : (stands : ℕ → R → Bool) (rs : List R) (f : R → R) (m : ℕ) → Before stands m rs
       → ((r : R) → ((p : ℕ) → stands p r ≡ true → p < m) → (p : ℕ) → stands p (f r) ≡ true → p < m) → Before stands m (map f rs)
@@ -318,13 +183,7 @@ module _ {R : Type 0} where
   -- so nobody is at m
   pub none_at : (stands : ℕ → R → Bool) (rs : List R) (n m : ℕ) → Before stands m rs → numbers (stands m) n rs ≡ []
   none_at stands [] n m b = refl
-  none_at stands (r ∷ rs) n m b =
-      let off : stands m r ≡ false = not_true (stands m r) (λ e. let l : m < m = b.0 m e in omega arith) in
-      rw off (none_at stands rs (suc n) m b.1)
-    where
-      not_true : (t : Bool) → (t ≡ true → ⊥) → t ≡ false
-      not_true true never = absurd (never refl)
-      not_true false never = refl
+  none_at stands (r ∷ rs) n m b = grind (arith, nat_tests, none_at stands rs (suc n) m b.1)
 
   -- an event at which nobody enters
   pub in_order-later : (stands : ℕ → R → Bool) (rs : List R) (n m : ℕ) → Before stands m rs → in_order stands n rs (suc m) ≡ in_order stands n rs m
@@ -334,10 +193,7 @@ module _ {R : Type 0} where
   pub in_order-enter : (stands : ℕ → R → Bool) (rs : List R) (n k m : ℕ) (new old : R) → Before stands m rs → at n rs k ≡ Some old
       → ((p : ℕ) → stands p old ≡ false) → stands m new ≡ true → ((p : ℕ) → p < m → stands p new ≡ false)
       → in_order stands n (change n k new rs) (suc m) ≡ in_order stands n rs m ++ k ∷ []
-  in_order-enter stands rs n k m new old b h off on rest =
-      let here : numbers (stands m) n (change n k new rs) ≡ k ∷ [] = numbers-change_on (stands m) rs n k new old (none_at stands rs n m b) h on in
-      let front : in_order stands n (change n k new rs) m ≡ in_order stands n rs m = in_order-change_kept stands rs n k new old h m (λ p l. rest p l ∙ sym (off p)) in
-      rw (here, front) refl
+  in_order-enter stands rs n k m new old b h off on rest = grind (arith, nat_tests, numbers-change_on (stands m) rs n k new old, none_at stands rs n m, in_order-change_kept stands rs n k new old)
 
   -- an event at which a new element enters
   pub in_order-append_new : (stands : ℕ → R → Bool) (rs : List R) (n m : ℕ) (new : R) → Before stands m rs → stands m new ≡ true
@@ -362,14 +218,7 @@ module _ {R : Type 0} where
   pub in_order_member : (stands : ℕ → R → Bool) (rs : List R) (n m j k : ℕ) → slice_get (in_order stands n rs m) j ≡ Some k → (r : R) × (at n rs k ≡ Some r) × (p : ℕ) × (p < m) × (stands p r ≡ true)
   in_order_member stands rs n zero j k h = cc
   in_order_member stands rs n (suc m) j k h =
-      ⊎_elim
-      (λ (e : slice_get (in_order stands n rs m) j ≡ Some k).
-      let t : (r : R) × (at n rs k ≡ Some r) × (p : ℕ) × (p < m) × (stands p r ≡ true) = in_order_member stands rs n m j k e in
-      (t.0, t.1, t.2, (let l : t.2 < m = t.3 in omega arith), t.4))
-      (λ (e : (i : ℕ) × (slice_get (numbers (stands m) n rs) i ≡ Some k)).
-      let t : (r : R) × (at n rs k ≡ Some r) × (stands m r ≡ true) = numbers_member (stands m) rs n e.0 k e.1 in
-      (t.0, t.1, m, omega arith, t.2))
-      (get_joined (in_order stands n rs m) (numbers (stands m) n rs) j k h)
+      grind (arith, nat_tests, in_order_member stands rs n m j k, numbers_member (stands m) rs n, get_joined (in_order stands n rs m) (numbers (stands m) n rs) j k)
 
   -- the first number is nowhere any more
   pub in_order-change_head : (stands : ℕ → R → Bool) → Stands stands → (rs : List R) (n k : ℕ) (rest : List ℕ) (new : R)
@@ -378,15 +227,12 @@ module _ {R : Type 0} where
   in_order-change_head stands one_place rs n k rest new off (suc m) h = go (λ front e. in_order-change_head stands one_place rs n k front new off m e) (in_order stands n rs m) refl h
     where
       never : (t : Bool) → (t ≡ true → ⊥) → t ≡ false
-      never true clash = absurd (clash refl)
-      never false clash = refl
+      never t clash = grind (arith, nat_tests)
 
       go : ((front : List ℕ) → in_order stands n rs m ≡ k ∷ front → in_order stands n (change n k new rs) m ≡ front) → (front : List ℕ)
           → in_order stands n rs m ≡ front → front ++ numbers (stands m) n rs ≡ k ∷ rest
           → in_order stands n (change n k new rs) (suc m) ≡ rest
-      go before [] e h =
-          let front : in_order stands n (change n k new rs) m ≡ [] = in_order-change_off stands rs n k new off m ∙ ap (filter (λ q. not (eqb q k))) e in
-          rw front (numbers-change_head (stands m) rs n k rest new h (off m))
+      go before [] e h = grind (arith, nat_tests, in_order-change_off, numbers-change_head)
       go before (x ∷ front) e h =
           let same : x ≡ k = cc in
           let parts : front ++ numbers (stands m) n rs ≡ rest = cc in
@@ -401,11 +247,7 @@ module _ {R : Type 0} where
 
   pub length-numbers : (p : R → Bool) (rs : List R) (n : ℕ) → length (numbers p n rs) ≡ tally p rs
   length-numbers p [] n = refl
-  length-numbers p (r ∷ rs) n =
-      let ih : length (numbers p (suc n) rs) ≡ tally p rs = length-numbers p rs (suc n) in
-      let goal : (b : Bool) → length (cond b (n ∷ numbers p (suc n) rs) (numbers p (suc n) rs)) ≡ one b + tally p rs =
-      elim [ true ↦ (omega arith) | false ↦ (omega arith) ] in
-      goal (p r)
+  length-numbers p (r ∷ rs) n = grind (arith, length-numbers p rs (suc n))
 
   -- the elements below a position are counted once more at that position
   pub length-in_order : (stands : ℕ → R → Bool) (rs : List R) (n : ℕ) (below : ℕ → R → Bool) → ((r : R) → below 0 r ≡ false)
@@ -426,8 +268,7 @@ module _ {R : Type 0} where
     where
       both : (xs : List R) → tally (below (suc m)) xs ≡ tally (below m) xs + tally (stands m) xs
       both [] = refl
-      both (x ∷ xs) = let ih : tally (below (suc m)) xs ≡ tally (below m) xs + tally (stands m) xs = both xs in
-          let e : one (below (suc m) x) ≡ one (below m x) + one (stands m x) = more m x in omega arith
+      both (x ∷ xs) = grind (arith, nat_tests, both xs)
 
 -- ---- maps
 
@@ -446,20 +287,12 @@ module _ {S : Type 0} where
 
   -- a key that is inserted twice has its later value
   pub inserted_again : (m : FinMap nat_cmp S) (k : ℕ) (f : Option S → S) (s : S) → insert m k (f (Some s)) ≡ insert (insert m k s) k (f (get (insert m k s) k))
-  inserted_again m k f s = same_gets _ _ (λ q. get_inserted m k (f (Some s)) q ∙ go q (eqb q k)
-      ∙ sym (get_inserted (insert m k s) k (f (get (insert m k s) k)) q ∙ ap (cond (eqb q k) (Some (f (get (insert m k s) k)))) (get_inserted m k s q)))
-    where
-      go : (q : ℕ) (b : Bool) → cond b (Some (f (Some s))) (get m q) ≡ cond b (Some (f (get (insert m k s) k))) (cond b (Some s) (get m q))
-      go q true = ap (λ (o : Option S). Some (f o)) (sym (get_inserted m k s k ∙ ap (λ (b : Bool). cond b (Some s) (get m k)) (eqb_self k)))
-      go q false = refl
+  inserted_again m k f s =
+      grind (arith, nat_tests, same_gets, get_inserted m k (f (Some s)), get_inserted (insert m k s) k (f (get (insert m k s) k)), get_inserted m k s, get_inserted m k s k, eqb_self k)
 
   -- a new key that is taken out again leaves nothing behind
   pub removed_inserted : (m : FinMap nat_cmp S) (k : ℕ) (s : S) → get m k ≡ None → remove (insert m k s) k ≡ m
-  removed_inserted m k s absent = same_gets _ _ (λ q. get_removed (insert m k s) k q ∙ ap (cond (eqb q k) None) (get_inserted m k s q) ∙ go q (eqb q k) refl)
-    where
-      go : (q : ℕ) (b : Bool) → eqb q k ≡ b → cond b None (cond b (Some s) (get m q)) ≡ get m q
-      go q true e = sym (ap (get m) (eqb-true q k e) ∙ absent)
-      go q false e = refl
+  removed_inserted m k s absent = grind (arith, nat_tests, same_gets, get_removed (insert m k s) k, get_inserted m k s)
 
 module _ {R S : Type 0} where
   pub get-numbered : (f : R → Option S) (rs : List R) (n q : ℕ) → get (by_number f n rs) q ≡ option_and_then f (at n rs q)
@@ -508,30 +341,18 @@ module _ {R S : Type 0} where
       (same_or_not q k))
 
   pub numbered-append_some : (f : R → Option S) (rs : List R) (n : ℕ) (new : R) (s : S) → f new ≡ Some s → by_number f n (rs ++ new ∷ []) ≡ insert (by_number f n rs) (n + length rs) s
-  numbered-append_some f rs n new s e = same_gets _ _ (λ q.
-      get-numbered f (rs ++ new ∷ []) n q ∙ ap (option_and_then f) (at-append rs new n q)
-      ∙ goal q (eqb q (n + length rs))
-      ∙ sym (get_inserted (by_number f n rs) (n + length rs) s q))
-    where
-      goal : (q : ℕ) (b : Bool) → option_and_then f (cond b (Some new) (at n rs q)) ≡ cond b (Some s) (get (by_number f n rs) q)
-      goal q true = e
-      goal q false = sym (get-numbered f rs n q)
+  numbered-append_some f rs n new s e = grind (arith, nat_tests, same_gets, get-numbered f, at-append rs new n, get_inserted (by_number f n rs) (n + length rs) s, get-numbered f rs n)
 
 module _ {S : Type 0} where
   -- the element behind a number's
   pub standing_found : (rs : List (Numbered S)) (n k : ℕ) (s : S) → standing_at n rs k ≡ Some s → (r : Numbered S) × (at n rs k ≡ Some r) × (r.standing ≡ Some s)
-  standing_found rs n k s h = go (at n rs k) refl h
-    where
-      go : (o : Option (Numbered S)) → at n rs k ≡ o → option_and_then (λ (r : Numbered S). r.standing) o ≡ Some s → (r : Numbered S) × (at n rs k ≡ Some r) × (r.standing ≡ Some s)
-      go None e h = cc
-      go (Some r) e h = (r, e, h)
+  standing_found rs n k s h = grind (arith, nat_tests)
 
   -- nobody is in line for one that has ended
   pub ended_before : (on : Option S → Bool) (rs : List (Numbered S)) (n k m : ℕ) → on None ≡ false
       → Before (λ p r. on r.standing && eqb r.position p) m rs
       → Before (λ p r. on r.standing && eqb r.position p) m (update n k after_end rs)
-  ended_before on rs n k m off b = before-update (λ p r. on r.standing && eqb r.position p) rs n k after_end m b
-      (λ r p h. absurd (let clash : false ≡ true = sym (ap (λ (x : Bool). x && eqb r.position p) off) ∙ h in cc))
+  ended_before on rs n k m off b = grind (arith, nat_tests, before-update)
 
   -- those in line are as many as those who are there
   pub line_counted : (on : Option S → Bool) (rs : List (Numbered S)) (first m : ℕ) → Before (λ p r. on r.standing && eqb r.position p) m rs
@@ -541,12 +362,10 @@ module _ {S : Type 0} where
       (λ p r. more p r.position (on r.standing)) m ∙ all m rs b
     where
       none : (a b : Bool) → b ≡ false → (a && b) ≡ false
-      none true b e = e
-      none false b e = refl
+      none a b e = grind (arith, nat_tests)
 
       step : (a x y z : Bool) → one x ≡ one y + one z → one (a && x) ≡ one (a && y) + one (a && z)
-      step true x y z e = e
-      step false x y z e = omega arith
+      step a x y z e = grind (arith, nat_tests)
 
       more : (p q : ℕ) (a : Bool) → one (a && ltb q (suc p)) ≡ one (a && ltb q p) + one (a && eqb q p)
       more p q a = step a (ltb q (suc p)) (ltb q p) (eqb q p) (grind (arith, nat_tests, eqb_tells q p))

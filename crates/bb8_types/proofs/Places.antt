@@ -1,5 +1,6 @@
 -- Places by their tests.
-use Rattle.std.proofs.Common.{◌≡◌, Bool, true, false, ◌&&◌, Option, Some, None, refl, ap, not}
+use Rattle.std.proofs.lemmas.Bool.Decides.{nat_tests}
+use Rattle.std.proofs.Common.{◌≡◌, Bool, true, false, ◌&&◌, Option, Some, refl, ap, not, arith}
 use Rattle.bb8_types.specs.declared.standing.Place.{Place}
 use Rattle.bb8_types.specs.declared.standing.Place.TheVariants.{Unclaimed, Claimed, Idle, Held, Guarded}
 use Rattle.bb8_types.specs.declared.standing.Standing.{Standing}
@@ -8,26 +9,21 @@ use Rattle.bb8_types.specs.declared.standing.Holder.TheVariants.{Guard, Get}
 use Rattle.bb8_types.specs.Places.{stands, is_conn, is_approval, is_unclaimed, is_claimed, is_guarded, is_idle, is_out, place_with, comes_from}
 
 pub and_right : (a b : Bool) → (a && b) ≡ true → (a ≡ true) × (b ≡ true)
-and_right true b e = (refl, e)
-and_right false b e = cc
+and_right a b e = grind (arith, nat_tests)
 
 module _ {C : Type 0} where
   -- the record in a state that passes
   pub standing_is : (test : Place C → Bool) (o : Option (Standing C)) → stands test o ≡ true → (s : Standing C) × (o ≡ Some s) × (test s.place ≡ true)
-  standing_is test None h = cc
-  standing_is test (Some s) h = (s, refl, h)
+  standing_is test o h = grind (arith, nat_tests)
 
   pub unclaimed_is : (p : Place C) → is_unclaimed p ≡ true → p ≡ Unclaimed
-  unclaimed_is Unclaimed h = refl
-  unclaimed_is _ h = cc
+  unclaimed_is p h = grind (arith, nat_tests)
 
   pub claimed_is : (p : Place C) → is_claimed p ≡ true → p ≡ Claimed
-  claimed_is Claimed h = refl
-  claimed_is _ h = cc
+  claimed_is p h = grind (arith, nat_tests)
 
   pub idle_is : (p : Place C) → is_idle p ≡ true → (c : C) × (p ≡ Idle c)
-  idle_is (Idle c) h = (c, refl)
-  idle_is _ h = cc
+  idle_is p h = grind (arith, nat_tests)
 
   pub guarded_is : (p : Place C) → is_guarded p ≡ true → p ≡ Guarded
   guarded_is Guarded h = refl
@@ -50,17 +46,13 @@ module _ {C : Type 0} where
 
   -- a record that enters or ends, by its tests
   pub idle_from : (opening : Bool) (p : Place C) → comes_from opening p ≡ true → is_idle p ≡ false
-  idle_from true p h = ap is_idle (claimed_is p h)
-  idle_from false p h = (out_tests p h).0
+  idle_from opening p h = grind (arith, nat_tests)
 
   pub unclaimed_from : (opening : Bool) (p : Place C) → comes_from opening p ≡ true → is_unclaimed p ≡ false
-  unclaimed_from true p h = ap is_unclaimed (claimed_is p h)
-  unclaimed_from false p h = (out_tests p h).1
+  unclaimed_from opening p h = grind (arith, nat_tests)
 
   pub conn_from : (opening : Bool) (p : Place C) → comes_from opening p ≡ true → is_conn p ≡ not opening
-  conn_from true p h = ap is_conn (claimed_is p h)
-  conn_from false p h = (out_tests p h).2
+  conn_from opening p h = grind (arith, nat_tests)
 
   pub approval_from : (opening : Bool) (p : Place C) → comes_from opening p ≡ true → is_approval p ≡ opening
-  approval_from true p h = ap is_approval (claimed_is p h)
-  approval_from false p h = ap not (out_tests p h).2
+  approval_from opening p h = grind (arith, nat_tests)

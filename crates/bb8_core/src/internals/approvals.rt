@@ -19,7 +19,7 @@ impl<C: Drop, A> PoolInternals<C, A> {
         ensures bounds { IsBounded 0 0 0 0 self.old self.new }
     {
         self.latest = self.latest.max(at.0);
-        self.accesses.end(AccessCounter::none());
+        self.accesses.end(AccessCounter::NONE);
         let wanted = want(&self.config, self.handles, &self.records);
         self.records.grant(wanted, claimed)
     }
@@ -32,7 +32,7 @@ impl<C: Drop, A> PoolInternals<C, A> {
         ensures bounds { IsBounded 0 0 0 0 self.old self.new }
     {
         self.latest = self.latest.max(at.0);
-        self.accesses.end(AccessCounter::none());
+        self.accesses.end(AccessCounter::NONE);
         let waiting = self.gets.unnotified();
         let due = due_asked(&self.config, self.handles, &self.records, waiting);
         self.records.grant(due, false)
@@ -44,7 +44,7 @@ impl<C: Drop, A> PoolInternals<C, A> {
         ensures bounds { IsBounded 0 0 1 0 self.old self.new }
     {
         self.latest = self.latest.max(at.0);
-        let mut accesses = AccessCounter::none();
+        let mut accesses = AccessCounter::NONE;
         if self.handles == 0 {
             self.accesses.end(accesses);
             return ClaimAnswer::Ended;

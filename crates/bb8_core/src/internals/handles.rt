@@ -25,7 +25,7 @@ impl<C: Drop, A> PoolInternals<C, A> {
         ensures bounds { IsBounded 0 0 0 0 self.old self.new }
     {
         self.latest = self.latest.max(at.0);
-        self.accesses.end(AccessCounter::none());
+        self.accesses.end(AccessCounter::NONE);
         State {
             connections: self.records.connections(),
             idle_connections: self.records.idle_connections(),
@@ -39,11 +39,11 @@ impl<C: Drop, A> PoolInternals<C, A> {
         ensures bounds { IsBounded 0 0 0 0 self.old self.new }
     {
         if !self.fits_join() {
-            self.accesses.end_unfit(AccessCounter::none());
+            self.accesses.end_unfit(AccessCounter::NONE);
             return Err(Unfit);
         }
         self.latest = self.latest.max(at.0);
-        self.accesses.end(AccessCounter::none());
+        self.accesses.end(AccessCounter::NONE);
         if self.handles >= u32::MAX as u64 {
             return Ok(JoinAnswer::Exhausted);
         }
@@ -58,7 +58,7 @@ impl<C: Drop, A> PoolInternals<C, A> {
         ensures bounds { IsBounded 0 0 0 0 self.old self.new }
     {
         if !self.fits_leave() {
-            self.accesses.end_unfit(AccessCounter::none());
+            self.accesses.end_unfit(AccessCounter::NONE);
             return Err(Unfit);
         }
         let mut dropped = self.records.no_list();
@@ -74,7 +74,7 @@ impl<C: Drop, A> PoolInternals<C, A> {
         ensures bounds { IsBounded 0 0 0 0 self.old self.new }
     {
         self.latest = self.latest.max(at.0);
-        self.accesses.end(AccessCounter::none());
+        self.accesses.end(AccessCounter::NONE);
         if self.handles == 1 {
             self.handles = 0;
             self.closed_below = u64::MAX;
@@ -92,7 +92,7 @@ impl<C: Drop, A> PoolInternals<C, A> {
         ensures bounds { IsBounded 0 0 0 0 self.old self.new }
     {
         if !self.fits_close() {
-            self.accesses.end_unfit(AccessCounter::none());
+            self.accesses.end_unfit(AccessCounter::NONE);
             return Err(Unfit);
         }
         let mut dropped = self.records.no_list();
@@ -108,7 +108,7 @@ impl<C: Drop, A> PoolInternals<C, A> {
         ensures bounds { IsBounded 0 0 0 0 self.old self.new }
     {
         self.latest = self.latest.max(at.0);
-        self.accesses.end(AccessCounter::none());
+        self.accesses.end(AccessCounter::NONE);
         self.handles = 0;
         self.closed_below = u64::MAX;
         LeaveAnswer::Left(self.records.leave(closed))
@@ -120,7 +120,7 @@ impl<C: Drop, A> PoolInternals<C, A> {
         ensures bounds { IsBounded 0 0 0 0 self.old self.new }
     {
         self.latest = self.latest.max(at.0);
-        self.accesses.end(AccessCounter::none());
+        self.accesses.end(AccessCounter::NONE);
         Looked {
             moment: Moment(self.latest),
             alive: self.handles > 0,

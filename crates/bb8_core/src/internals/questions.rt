@@ -102,7 +102,7 @@ impl<C: Drop> PoolInternals<C> {
         ensures { (l : ledger.Ledger C) → Represents l self.now
             → result ≡ ledger.get_of l get.number }
     {
-        let mut accesses = AccessCounter::none();
+        let mut accesses = AccessCounter::NONE;
         let getting = self.gets.getting(get, &mut accesses);
         self.asking.forget(accesses);
         getting
@@ -141,7 +141,7 @@ impl<C: Drop> PoolInternals<C> {
     pub(crate) fn is_guarded(&self, k: Key) -> bool
         ensures { ReportsRecord (places.stands places.is_guarded) self.now k.number result }
     {
-        let mut accesses = AccessCounter::none();
+        let mut accesses = AccessCounter::NONE;
         let is_guarded = self.records.is_guarded(k, &mut accesses);
         self.asking.forget(accesses);
         is_guarded
@@ -151,7 +151,7 @@ impl<C: Drop> PoolInternals<C> {
     pub fn is_idle(&self, k: Key) -> bool
         ensures { ReportsFitting self.now (acts.Evict k.number) result }
     {
-        let mut accesses = AccessCounter::none();
+        let mut accesses = AccessCounter::NONE;
         let is_idle = self.records.is_idle(k, &mut accesses);
         self.asking.forget(accesses);
         is_idle
@@ -161,7 +161,7 @@ impl<C: Drop> PoolInternals<C> {
     pub(crate) fn is_claimed(&self, k: Key) -> bool
         ensures { ReportsRecord (places.stands places.is_claimed) self.now k.number result }
     {
-        let mut accesses = AccessCounter::none();
+        let mut accesses = AccessCounter::NONE;
         let is_claimed = self.records.is_claimed(k, &mut accesses);
         self.asking.forget(accesses);
         is_claimed
@@ -172,7 +172,7 @@ impl<C: Drop> PoolInternals<C> {
         ensures some { IfSome result (λ k. (k.number ≡ number) × IsRecordIn self.now number) }
         ensures none { IfNone result (IsNoRecordIn self.now number) }
     {
-        let mut accesses = AccessCounter::none();
+        let mut accesses = AccessCounter::NONE;
         let found = self.records.find(number, &mut accesses);
         self.asking.forget(accesses);
         found
@@ -183,7 +183,7 @@ impl<C: Drop> PoolInternals<C> {
         ensures some { IfSome result (λ g. (g.number ≡ number) × IsGetIn self.now number) }
         ensures none { IfNone result (IsNoGetIn self.now number) }
     {
-        let mut accesses = AccessCounter::none();
+        let mut accesses = AccessCounter::NONE;
         let found = self.gets.find(number, &mut accesses);
         self.asking.forget(accesses);
         found

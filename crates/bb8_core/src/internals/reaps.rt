@@ -36,7 +36,7 @@ impl<C: Drop, A> PoolInternals<C, A> {
         ensures connection { IfOk result (HandsOutIdle self.old k.number) }
         ensures bounds { IsBounded 0 0 2 1 self.old self.new }
     {
-        let mut accesses = AccessCounter::none();
+        let mut accesses = AccessCounter::NONE;
         match self.records.evict(k, &mut accesses) {
             None => {
                 self.accesses.end_unfit(accesses);
@@ -77,7 +77,7 @@ impl<C: Drop, A> PoolInternals<C, A> {
     {
         let now = self.latest.max(at.0);
         self.latest = now;
-        let mut accesses = AccessCounter::none();
+        let mut accesses = AccessCounter::NONE;
         if self.handles == 0 {
             self.accesses.end(accesses);
             return ReapAnswer::Ended;
@@ -105,7 +105,7 @@ impl<C: Drop, A> PoolInternals<C, A> {
         let now = self.latest.max(at.0);
         self.latest = now;
         self.retired = self.records.next_number();
-        let mut accesses = AccessCounter::none();
+        let mut accesses = AccessCounter::NONE;
         if self.handles == 0 {
             self.accesses.end(accesses);
             return ReapAnswer::Ended;

@@ -7,7 +7,6 @@ use bb8_core::internals::Grant;
 use bb8_core::replay::{Act, Event};
 
 mod audits;
-mod meeting;
 mod refusals;
 mod scripts;
 

@@ -1,116 +1,84 @@
 //! Replays with other first numbers than 0, which no script can express.
 
-use super::{assert_equal, served, unchecked};
-use bb8_core::api::{Config, Moment, State};
-use bb8_core::internals::Grant;
-use bb8_core::replay::{Act, Answer, Event, replay_from};
-use std::alloc::{AllocError, Global};
+use bb8_core::api::Moment;
+use bb8_core::replay::replay_from;
+use bb8_runner::lines::{lines_of, script_of};
+use bb8_runner::text::output;
 use std::process::Abort;
 use std::test::Fail;
 
 /// The greatest number that is ever given.
 const LAST: u64 = 18_446_744_073_709_551_614;
 
-/// An event at a moment in nanoseconds, and its expected result.
-type ReplayLine = (u64, Act, Answer);
-
-/// Returns the events of a table.
-fn events_of(alloc: Global, lines: &[ReplayLine]) -> Result<Vec<Event>, AllocError> {
-    let mut events = Vec::new(alloc);
-    for (moment, act, _) in lines {
-        events.push(Event {
-            at: Moment(*moment),
-            act: *act,
-        })?;
-    }
-    Ok(events)
-}
-
-/// Asserts that the results are those of the table.
-fn assert_answers(rt: &impl Abort, lines: &[ReplayLine], answers: &[Answer]) {
-    assert_equal(&rt, answers.len(), lines.len());
-    for ((moment, act, wanted), answer) in lines.iter().zip(answers) {
-        assert_eq!(rt; answer, wanted, "{act:?} at {moment}");
-    }
-}
-
-/// Replays a table with these first numbers of records and of gets, and returns the pool's state at
-/// the end.
-fn shown_after_from(
-    rt: &impl Abort,
-    alloc: Global,
-    config: Config,
+/// Asserts the output of a script with these first numbers of records and of gets.
+fn assert_replays<R: Abort + AllocGlobal>(
+    rt: &R,
     first_number: u64,
     first_get: u64,
-    lines: &[ReplayLine],
-) -> Result<State, Fail> {
-    assert!(rt; config.is_lawful());
-    let events = events_of(alloc, lines)?;
-    let (answers, mut pool) = replay_from(alloc, config, first_number, first_get, &events)?;
-    assert_answers(rt, lines, &answers);
-    Ok(pool.state(Moment(0)))
+    script: &str,
+    wanted: &str,
+) -> Result<(), Fail> {
+    let alloc = rt.alloc();
+    let lines = lines_of(alloc, script.as_bytes())?;
+    let Ok(script) = script_of(alloc, lines.as_slice()) else {
+        return Err(Fail::from("no script"));
+    };
+    let (answers, mut pool) = replay_from(
+        alloc,
+        script.config,
+        first_number,
+        first_get,
+        &script.events,
+    )?;
+    let text = output(alloc, &answers, pool.state(Moment(0)))?;
+    assert_eq!(rt; text.as_str(), wanted);
+    Ok(())
 }
 
 /// The last number of a get is given, and the next get is refused. The last two numbers of
 /// approvals are given, and three more are withheld.
 #[test]
 fn gives_no_number_past_the_last(rt: HostRuntime) -> Result<(), Fail> {
-    let gets = [
-        (0, Act::Begin, Answer::Begun(LAST)),
-        (0, Act::Begin, Answer::Exhausted),
-    ];
-    let mut wanted = served(0, 0, 1, 0);
-    wanted.statistics.get_direct = 0;
-    let state = shown_after_from(&rt, rt.alloc(), Config::default(), 0, LAST, &gets)?;
-    assert_equal(&rt, state, wanted);
-
-    let withheld = Grant {
-        first: LAST - 1,
-        count: 2,
-        withheld: 3,
-    };
-    let approvals = [
-        (0, Act::Fill(false), Answer::Granted(withheld)),
-        (0, Act::Claim, Answer::Claimed(Some(LAST - 1))),
-        (0, Act::Claim, Answer::Claimed(Some(LAST))),
-        (0, Act::Claim, Answer::Claimed(None)),
-        (0, Act::Opened(LAST), Answer::Entered(LAST, None)),
-        (0, Act::Opened(LAST - 1), Answer::Entered(LAST - 1, None)),
-    ];
-    let state = shown_after_from(
+    assert_replays(
         &rt,
-        rt.alloc(),
-        unchecked(5, Some(5)),
+        0,
+        LAST,
+        "config\n0 begin\n0 begin\n",
+        "\
+        begun 18446744073709551614\n\
+        exhausted\n\
+        state connections 0 idle 0 started 1 direct 0 waited 0 timed_out 0 cancelled 0 wait_us 0 created 0 broken 0 invalid 0 lifetime 0 idle_timeout 0\n",
+    )?;
+    assert_replays(
+        &rt,
         LAST - 1,
         0,
-        &approvals,
-    )?;
-    assert_equal(&rt, state, served(2, 2, 0, 2));
-    Ok(())
+        "config max_size=5 min_idle=5 check=off\n0 fill\n0 claim\n0 claim\n0 claim\n0 open 18446744073709551614\n0 open 18446744073709551613\n",
+        "\
+        granted grant 2 at 18446744073709551613 withheld 3\n\
+        claimed 18446744073709551613\n\
+        claimed 18446744073709551614\n\
+        none\n\
+        entered 18446744073709551614\n\
+        entered 18446744073709551613\n\
+        state connections 2 idle 2 started 0 direct 0 waited 0 timed_out 0 cancelled 0 wait_us 0 created 2 broken 0 invalid 0 lifetime 0 idle_timeout 0\n",
+    )
 }
 
 /// Two numbers are left: a fill is granted both, and one is withheld. Then an add is withheld, a
 /// broken connection is reported as broken, and a fill is granted none, and one is withheld.
 #[test]
 fn used_up_numbers_withhold_grants_and_addings(rt: HostRuntime) -> Result<(), Fail> {
-    let last_two = Grant {
-        first: LAST - 1,
-        count: 2,
-        withheld: 1,
-    };
-    let none = Grant {
-        first: LAST + 1,
-        count: 0,
-        withheld: 1,
-    };
-    let lines = [
-        (0, Act::Fill(false), Answer::Granted(last_two)),
-        (0, Act::Add(false), Answer::Withheld),
-        (0, Act::Add(true), Answer::Broken),
-        (0, Act::Fill(false), Answer::Granted(none)),
-    ];
-    let config = unchecked(5, Some(3));
-    let state = shown_after_from(&rt, rt.alloc(), config, LAST - 1, 0, &lines)?;
-    assert_equal(&rt, state, served(0, 0, 0, 0));
-    Ok(())
+    assert_replays(
+        &rt,
+        LAST - 1,
+        0,
+        "config max_size=5 min_idle=3 check=off\n0 fill\n0 add\n0 add broken\n0 fill\n",
+        "\
+        granted grant 2 at 18446744073709551613 withheld 1\n\
+        withheld\n\
+        broken\n\
+        granted withheld 1\n\
+        state connections 0 idle 0 started 0 direct 0 waited 0 timed_out 0 cancelled 0 wait_us 0 created 0 broken 0 invalid 0 lifetime 0 idle_timeout 0\n",
+    )
 }

@@ -13,7 +13,6 @@ mod answers;
 mod errors;
 mod judged;
 mod refusals;
-mod spelled;
 
 /// One connection is added, checked out and returned.
 const SCRIPT: &[u8] = b"\
@@ -23,13 +22,6 @@ const SCRIPT: &[u8] = b"\
     0 try 0\n\
     0 return 0\n";
 
-const ANSWERS: &[u8] = b"\
-    added 0\n\
-    begun 0\n\
-    served 0\n\
-    kept 0\n\
-    state connections 1 idle 1 started 1 direct 1 waited 0 timed_out 0 cancelled 0 wait_us 0 created 0 broken 0 invalid 0 lifetime 0 idle_timeout 0\n";
-
 /// Returns the verdict and the output of a script.
 fn run(rt: &HostRuntime, input: &[u8]) -> Result<(Verdict, Vec<u8>), Fail> {
     let mut reader = input;
@@ -38,31 +30,6 @@ fn run(rt: &HostRuntime, input: &[u8]) -> Result<(Verdict, Vec<u8>), Fail> {
         Ok(verdict) => Ok((verdict, written)),
         Err(_) => Err(Fail::from("a fault")),
     }
-}
-
-#[test]
-fn last_line_may_lack_its_line_feed(rt: HostRuntime) -> Result<(), Fail> {
-    for input in [SCRIPT, &SCRIPT[..SCRIPT.len() - 1]] {
-        let (end, written) = run(&rt, input)?;
-        assert_equal(&rt, end, Verdict::Ran);
-        assert_equal(&rt, written.as_slice(), ANSWERS);
-    }
-    Ok(())
-}
-
-#[test]
-fn reports_a_truncated_line(rt: HostRuntime) -> Result<(), Fail> {
-    // After `0 return`, and after `0 retu`.
-    for cut in [3, 5] {
-        let (end, written) = run(&rt, &SCRIPT[..SCRIPT.len() - cut])?;
-        assert_equal(&rt, end, Verdict::Bad);
-        assert_equal(
-            &rt,
-            written.as_slice(),
-            b"line 5: not an event\n".as_slice(),
-        );
-    }
-    Ok(())
 }
 
 /// A reader that returns three bytes at a time, and fails at this read, if one is set.

@@ -1,219 +1,129 @@
-//! Each step of the bare state, over connections that are no numbers.
-use super::{assert_equal, granted, served, unchecked};
-use bb8_core::api::Moment;
+//! Steps over connections that are no numbers: keys that are stale, and hand-offs, in which the
+//! notified get tries in the same call.
+use super::{assert_equal, unchecked};
+use bb8_core::api::{Config, Moment};
+use bb8_core::handing::{HandedOver, detach, give_up, opened, put_back};
 use bb8_core::internals::{
-    BeginAnswer, ClaimAnswer, GetKey, Grant, Key, OpenedAnswer, PoolInternals, PutBackAnswer,
-    TryAnswer,
+    AddAnswer, BeginAnswer, CheckedOkAnswer, ClaimAnswer, DetachAnswer, GetKey, GiveUpAnswer, Key,
+    OpenedAnswer, PoolInternals, PutBackAnswer, Reason, TryAnswer,
 };
-use std::alloc::Global;
 use std::process::Abort;
 
-pub(super) const NOW: Moment = Moment(0);
+const NOW: Moment = Moment(0);
 
 /// A connection that is moved and never copied.
 #[derive(Debug, PartialEq, Eq, Drop)]
-pub(super) enum Colour {
+enum Colour {
     Red,
     Green,
     Blue,
 }
 
-/// Serves a get.
-pub(super) fn served_by(
-    rt: &impl Abort,
-    pool: &mut PoolInternals<Colour>,
-    get: GetKey,
-) -> (Key, Colour, Grant) {
-    match pool.try_get(NOW, get).expect(rt, "the step fits") {
-        TryAnswer::Served(key, conn, grant) => (key, conn, grant),
-        TryAnswer::Taken(..) => panic!(rt; "the get checks"),
-        TryAnswer::Waiting(_) => panic!(rt; "the get waits"),
+/// Begins a get.
+fn begun(rt: &impl Abort, pool: &mut PoolInternals<Colour>) -> GetKey {
+    match pool.begin(NOW) {
+        Ok(BeginAnswer::Begun(get)) => get,
+        _ => panic!(rt; "no get began"),
     }
 }
 
-/// Has a get take a connection that it checks.
-pub(super) fn taken_by(
-    rt: &impl Abort,
-    pool: &mut PoolInternals<Colour>,
-    get: GetKey,
-) -> (Key, Colour, Grant) {
-    match pool.try_get(NOW, get).expect(rt, "the step fits") {
-        TryAnswer::Taken(key, conn, grant) => (key, conn, grant),
-        TryAnswer::Served(..) => panic!(rt; "the get was served unchecked"),
-        TryAnswer::Waiting(_) => panic!(rt; "the get waits"),
-    }
-}
-
-/// Begins a get and serves it.
-fn take(rt: &impl Abort, pool: &mut PoolInternals<Colour>) -> (Key, Colour) {
-    let Ok(BeginAnswer::Begun(get)) = pool.begin(NOW) else {
-        panic!(rt; "no get began");
+/// Returns the key and the connection that a get took, either checked or not.
+fn taken(rt: &impl Abort, tried: Option<TryAnswer<Colour>>, is_checked: bool) -> (Key, Colour) {
+    let (key, conn, checks) = match tried {
+        Some(TryAnswer::Served(key, conn, _)) => (key, conn, false),
+        Some(TryAnswer::Taken(key, conn, _)) => (key, conn, true),
+        _ => panic!(rt; "no get took a connection"),
     };
-    let (key, conn, _) = served_by(rt, pool, get);
+    assert_equal(&rt, checks, is_checked);
     (key, conn)
 }
 
-/// Opens the connection of the approval with this number.
-fn enter(rt: &impl Abort, pool: &mut PoolInternals<Colour>, number: u64, conn: Colour) {
-    let key = pool.find(number).expect(rt, "the approval is open");
-    let Ok(OpenedAnswer::Entered(None)) = pool.opened(NOW, key, conn) else {
-        panic!(rt; "{number} did not become idle, or notified somebody");
+/// Keys and hints with the table index of another entry, or of none, name the connection or get of
+/// their number.
+#[test]
+fn stale_keys_name_the_right_entry(rt: HostRuntime) {
+    let config = Config::default();
+    assert!(rt; config.is_lawful());
+    let mut pool = PoolInternals::new(rt.alloc(), config);
+    for conn in [Colour::Red, Colour::Green] {
+        let Ok(AddAnswer::Added(..)) = pool.add(NOW, conn, false) else {
+            panic!(rt; "it was refused");
+        };
+    }
+    let first = begun(&rt, &mut pool);
+    let second = begun(&rt, &mut pool);
+    let stale = GetKey {
+        place: second.place,
+        ..first
     };
+    let (red, conn) = taken(&rt, pool.try_get(NOW, stale).ok(), true);
+    assert_equal(&rt, (red.number, conn), (0, Colour::Red));
+    assert!(rt; pool.searched() > 0);
+    let (green, conn) = taken(&rt, pool.try_get(NOW, second).ok(), true);
+    let Ok(CheckedOkAnswer::Served(key)) = pool.checked_ok(NOW, first, green.place) else {
+        panic!(rt; "the get holds nothing");
+    };
+    assert_equal(&rt, (key.number, key.place), (0, red.place));
+    let Ok(CheckedOkAnswer::Served(key)) = pool.checked_ok(NOW, second, 1_000) else {
+        panic!(rt; "the get holds nothing");
+    };
+    assert_equal(&rt, (key.number, key.place), (1, green.place));
+    let stale = Key {
+        place: red.place,
+        ..green
+    };
+    let Ok(PutBackAnswer::Closed(Colour::Green, ..)) = pool.put_back(NOW, stale, conn, true) else {
+        panic!(rt; "it was kept, or another one was handed back");
+    };
+    assert!(rt; pool.find(1).is_none());
+    assert_equal(&rt, pool.find(0).map(|key| key.place), Some(red.place));
 }
 
-/// Returns a pool of three connections, opened in the order 1, 0, 2.
-fn three_idle(rt: &impl Abort, alloc: Global) -> PoolInternals<Colour> {
-    let config = unchecked(3, Some(3));
+/// Four gets wait for one connection. It is opened, and serves 0; it is returned, and serves 1. It
+/// is returned without a hand-off; 2 was notified and gives up, and 3 is served. It is detached,
+/// and cannot be returned any more.
+#[test]
+fn succeeds_hand_offs_in_order(rt: HostRuntime) {
+    let config = unchecked(1, None);
     assert!(rt; config.is_lawful());
-    let mut pool = PoolInternals::new(alloc, config);
-    assert_equal(&rt, pool.fill(NOW, true), granted(0, 3));
-    enter(rt, &mut pool, 1, Colour::Green);
-    enter(rt, &mut pool, 0, Colour::Red);
-    enter(rt, &mut pool, 2, Colour::Blue);
-    pool
-}
-
-/// Asserts which connection is served next.
-fn assert_served(rt: &impl Abort, pool: &mut PoolInternals<Colour>, number: u64, conn: Colour) {
-    let (key, served) = take(rt, pool);
-    assert_equal(&rt, key.number, number);
-    assert_equal(&rt, served, conn);
-}
-
-/// Returns a pool whose records begin at 7 and whose gets begin at 40, with one claimed approval.
-fn one_claimed(rt: &impl Abort, alloc: Global) -> (PoolInternals<Colour>, Key) {
-    let config = unchecked(2, Some(1));
-    assert!(rt; config.is_lawful());
-    let mut pool = PoolInternals::starting_at(alloc, config, 7, 40);
-    assert_equal(&rt, pool.state(NOW), served(0, 0, 0, 0));
-    assert!(rt; pool.find(7).is_none());
-    assert_equal(&rt, pool.fill(NOW, false), granted(7, 1));
+    let mut pool = PoolInternals::new(rt.alloc(), config);
+    let gets = [(); 4].map(|()| begun(&rt, &mut pool));
+    for get in gets {
+        let tried = pool.try_get(NOW, get);
+        assert!(rt; matches!(tried, Ok(TryAnswer::Waiting(_))));
+    }
     let ClaimAnswer::Claimed(Some(approval)) = pool.claim(NOW) else {
         panic!(rt; "nothing was claimed");
     };
-    assert_equal(&rt, approval.number, 7);
-    let ClaimAnswer::Claimed(None) = pool.claim(NOW) else {
-        panic!(rt; "it was claimed twice");
-    };
-    (pool, approval)
-}
-
-#[test]
-fn succeeds_each_step_once(rt: HostRuntime) {
-    let (mut pool, approval) = one_claimed(&rt, rt.alloc());
-    let Ok(OpenedAnswer::Entered(None)) = pool.opened(NOW, approval, Colour::Blue) else {
-        panic!(rt; "it did not become idle, or notified somebody");
-    };
-    let Ok(BeginAnswer::Begun(get)) = pool.begin(NOW) else {
-        panic!(rt; "no get began");
-    };
-    assert_equal(&rt, get.number, 40);
-    assert_equal(&rt, pool.find_get(40).map(|key| key.number), Some(40));
-    let (key, conn, grant) = served_by(&rt, &mut pool, get);
-    assert_equal(
-        &rt,
-        (key.number, &conn, grant),
-        (7, &Colour::Blue, granted(8, 1)),
+    let HandedOver { outcome, tried } = opened(&mut pool, NOW, approval, Colour::Red);
+    assert!(rt;
+        matches!(
+            outcome,
+            Ok(OpenedAnswer::Entered(Some(GetKey { number: 0, .. })))
+        )
     );
-    assert!(rt; pool.find_get(40).is_none());
-    assert_equal(&rt, pool.find(7).map(|key| key.number), Some(7));
-    let Ok(PutBackAnswer::Closed(closed, grant, None)) = pool.put_back(NOW, key, conn, true) else {
-        panic!(rt; "it was kept, or somebody was notified");
-    };
-    assert_equal(&rt, pool.searched(), 0);
-    assert_equal(&rt, (&closed, grant), (&Colour::Blue, granted(9, 0)));
-    assert!(rt; pool.find(7).is_none());
-    pool.limits();
-    let mut wanted = served(0, 0, 1, 1);
-    wanted.statistics.connections_closed_broken = 1;
-    assert_equal(&rt, pool.state(NOW), wanted);
-}
-
-#[test]
-fn failed_attempt_ends_its_approval(rt: HostRuntime) {
-    let (mut pool, approval) = one_claimed(&rt, rt.alloc());
-    assert!(rt; pool.failed(NOW, approval).is_ok());
-    assert_equal(&rt, (pool.examined(), pool.searched()), (1, 0));
-    assert!(rt; pool.find(7).is_none());
-}
-
-/// Returns a pool with two connections checked out; the later one has the table index of an ended
-/// one.
-fn place_used_again(rt: &impl Abort, alloc: Global) -> (PoolInternals<Colour>, Key, Key, Key) {
-    let config = unchecked(2, Some(1));
-    assert!(rt; config.is_lawful());
-    let mut pool = PoolInternals::new(alloc, config);
-    assert_equal(&rt, pool.fill(NOW, true), granted(0, 1));
-    enter(rt, &mut pool, 0, Colour::Red);
-    let (ended, conn) = take(rt, &mut pool);
-    assert_equal(&rt, (ended.number, &conn), (0, &Colour::Red));
-    let ClaimAnswer::Claimed(Some(_)) = pool.claim(NOW) else {
-        panic!(rt; "nothing was claimed");
-    };
-    enter(rt, &mut pool, 1, Colour::Green);
-    let Ok(PutBackAnswer::Closed(Colour::Red, _, None)) = pool.put_back(NOW, ended, conn, true)
-    else {
-        panic!(rt; "it was kept, or another one was handed back");
-    };
-    let (first, _) = take(rt, &mut pool);
-    let ClaimAnswer::Claimed(Some(_)) = pool.claim(NOW) else {
-        panic!(rt; "nothing was claimed");
-    };
-    enter(rt, &mut pool, 2, Colour::Blue);
-    let (later, _) = take(rt, &mut pool);
-    (pool, ended, first, later)
-}
-
-#[test]
-fn stale_keys_name_the_right_record(rt: HostRuntime) {
-    let (mut pool, ended, first, later) = place_used_again(&rt, rt.alloc());
-    assert_equal(&rt, (ended.number, first.number, later.number), (0, 1, 2));
-    assert_equal(&rt, later.place, ended.place);
-    assert!(rt; pool.find(0).is_none());
-    let stale = Key {
-        number: 1,
-        place: ended.place,
-    };
-    let Ok(PutBackAnswer::Kept(None)) = pool.put_back(NOW, stale, Colour::Green, false) else {
-        panic!(rt; "it was closed");
-    };
-    assert_served(&rt, &mut pool, 1, Colour::Green);
-    let nowhere = Key {
-        number: 2,
-        place: 1_000,
-    };
-    let Ok(PutBackAnswer::Closed(Colour::Blue, _, None)) = pool.put_back(
-        NOW,
-        nowhere,
-        Colour::Blue,
-        true,
-    ) else {
-        panic!(rt; "it was kept, or another one was handed back");
-    };
-    assert!(rt; pool.find(2).is_none());
-    assert_equal(&rt, pool.find(1).map(|key| key.number), Some(1));
-}
-
-#[test]
-fn stale_keys_name_the_right_get(rt: HostRuntime) {
-    let mut pool = three_idle(&rt, rt.alloc());
-    let _ = take(&rt, &mut pool);
-    for wanted in [1, 2] {
-        let Ok(BeginAnswer::Begun(get)) = pool.begin(NOW) else {
-            panic!(rt; "no get began");
-        };
-        assert_equal(&rt, get.number, wanted);
-    }
-    let taken_over = pool.find_get(1).expect(&rt, "the get is alive").place;
-    let stale = GetKey {
-        number: 2,
-        place: taken_over,
-    };
-    let (key, conn, _) = served_by(&rt, &mut pool, stale);
-    // It is searched for when it is read, and when it ends.
-    assert_equal(&rt, pool.searched(), 2);
+    let (key, conn) = taken(&rt, tried, false);
+    let HandedOver { outcome, tried } = put_back(&mut pool, NOW, key, conn, false);
+    assert!(rt;
+        matches!(
+            outcome,
+            Ok(PutBackAnswer::Kept(Some(GetKey { number: 1, .. })))
+        )
+    );
+    let (key, conn) = taken(&rt, tried, false);
+    let kept = pool.put_back(NOW, key, conn, false);
+    assert!(rt; matches!(kept, Ok(PutBackAnswer::Kept(Some(_)))));
+    let HandedOver { outcome, tried } = give_up(&mut pool, NOW, gets[2], Reason::TimedOut, false);
+    assert!(rt;
+        matches!(
+            outcome,
+            Ok(GiveUpAnswer::GaveUp(Some(GetKey { number: 3, .. })))
+        )
+    );
+    let (key, conn) = taken(&rt, tried, false);
     assert_equal(&rt, (key.number, conn), (0, Colour::Red));
-    assert!(rt; pool.find_get(0).is_none());
-    assert_equal(&rt, pool.find_get(1).map(|get| get.number), Some(1));
-    assert!(rt; pool.find_get(2).is_none());
+    let HandedOver { outcome, tried } = detach(&mut pool, NOW, key);
+    assert!(rt; matches!(outcome, Ok(DetachAnswer::Detached(_, None))) && tried.is_none());
+    let HandedOver { outcome, tried } = put_back(&mut pool, NOW, key, Colour::Blue, false);
+    assert!(rt; matches!(outcome, Err(Colour::Blue)) && tried.is_none());
 }

@@ -1,6 +1,5 @@
 //! A pool's tasks, against values that were worked out by hand.
 
-mod polls;
 mod reaper;
 mod replays;
 

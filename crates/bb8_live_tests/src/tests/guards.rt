@@ -1,10 +1,9 @@
 //! Lists of guards.
 
-use super::{NumberTrial, SlowPool, Trial, assert_equal, try_numbers};
-use bb8::{Guards, GuardsCalls, Moment, PoolPermits, Runtime};
-use bb8_trials::{LentHandle, SECOND};
+use super::{NumberTrial, Trial, assert_equal, try_numbers};
+use bb8::{Guards, GuardsCalls, PoolPermits, Runtime};
+use bb8_trials::LentHandle;
 use futures::task::Poll;
-use futures::test::MockTask;
 use std::process::Abort;
 use std::test::Fail;
 
@@ -51,45 +50,4 @@ pub(super) fn gathers<R: Runtime + Abort, L: PoolPermits>(
 #[test]
 fn succeeds_to_gather_three_guards(rt: HostRuntime) -> Result<(), Fail> {
     try_numbers(rt, 3, Trial::ListOfGuards)
-}
-
-/// Three connections, ten seconds apart and 7 the oldest, are checked out when 7 exceeds its
-/// lifetime by a second. The guard from the middle of their list returns 8, which is kept. Of the
-/// rest, which the list returns, only 7 is closed.
-pub(super) fn keeps_the_young<R: Runtime + Abort, L: PoolPermits>(
-    rt: R,
-    numbers: NumberTrial<R, L>,
-) -> Result<(), Fail> {
-    let NumberTrial { pool, clock, task } = numbers;
-    let mut guards = Guards::new(rt.alloc(), &pool);
-    for (connection, birth) in [(7, 0), (8, 10 * SECOND), (9, 20 * SECOND)] {
-        clock.set(Moment(birth));
-        assert_equal(&rt, pool.add(connection), Ok(()));
-        let Some(guard) = LentHandle::lend(&pool, &task) else {
-            panic!(&rt; "not served");
-        };
-        assert!(&rt; guards.push(guard).is_ok());
-    }
-    clock.set(Moment(1801 * SECOND));
-    drop(guards.remove(1));
-    let state = pool.state();
-    assert_equal(&rt, (state.connections, state.idle_connections), (3, 1));
-    drop(guards);
-    let state = pool.state();
-    assert_equal(&rt, (state.connections, state.idle_connections), (2, 2));
-    assert_equal(&rt, state.statistics.connections_closed_max_lifetime, 1);
-    assert_equal(&rt, lent(&pool, &task), Some((8, 9)));
-    Ok(())
-}
-
-/// Returns the connections of two gets.
-fn lent<R: Runtime, L: PoolPermits>(pool: &SlowPool<R, L>, task: &MockTask) -> Option<(u64, u64)> {
-    let first = LentHandle::lend(pool, task)?;
-    let second = LentHandle::lend(pool, task)?;
-    Some((*first, *second))
-}
-
-#[test]
-fn list_returns_each_connection_under_its_key(rt: HostRuntime) -> Result<(), Fail> {
-    try_numbers(rt, 3, Trial::ListOfAges)
 }

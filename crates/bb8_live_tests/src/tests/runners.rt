@@ -1,6 +1,5 @@
 //! Job runners over a live pool, and helpers of their tests: comparisons of outcomes.
 
-mod calls;
 mod refusals;
 mod trial;
 mod turns;
@@ -11,11 +10,6 @@ use slots::Outcome;
 /// Whether a job returned this number.
 fn came_to(outcome: Option<Outcome<u64>>, number: u64) -> bool {
     matches!(outcome, Some(Outcome::Done(out)) if out == number)
-}
-
-/// Whether a job was refused because its get timed out.
-fn timed_out(outcome: Option<Outcome<u64>>) -> bool {
-    matches!(outcome, Some(Outcome::Refused(RunError::TimedOut)))
 }
 
 /// Whether a job was refused for lack of memory.

@@ -3,7 +3,7 @@
 //! The home is released between a step and the user callback after it.
 ghost use Rattle.std.specs.Prelude.{◌≡◌};
 ghost use Rattle.std.specs.Duration.{as_nanos};
-ghost use Rattle.bb8_lock.specs.Polls.{IsDeadline, closed_in, AfterGiveUp, Asks, CheckFails, Checks, AfterTry, Tries, AfterStart, GetAdvances, DropsAfterStep, LeavesLine, Retries, TakesBack, TimesOut, Settles, EndsPoll, Starts};
+ghost use Rattle.bb8_lock.specs.Polls.{IsDeadline, closed_in, AfterGiveUp, Asks, CheckFails, Checks, AfterTry, Tries, GetAdvances, DropsAfterStep, LeavesLine, Retries, TakesBack, TimesOut, Settles, EndsPoll};
 
 use super::home::{FirstTry, GetHome, Passed, Returned, Taken, Tried};
 use super::outside::Outside;
@@ -15,7 +15,7 @@ use std::time::Duration;
 
 /// Returns the deadline of a get that is first polled at `moment`. None, and so never, if it is
 /// past the greatest moment.
-fn deadline(moment: Moment, timeout: Duration) -> Option<Moment>
+pub(crate) fn deadline(moment: Moment, timeout: Duration) -> Option<Moment>
     ensures { IsDeadline moment (as_nanos timeout) result }
 {
     let nanos = u64::try_from(timeout.as_nanos()).ok()?;
@@ -147,19 +147,20 @@ fn check<C, V, P, E, X: GetHome<C, Permit = P> + Outside<C, E, Checking = V>>(
     }
 }
 
-/// Handles the result of a try. A connection that must be checked is polled in the same poll.
+/// Handles the result of a try, or of a begin with its first try. A connection that must be checked
+/// is polled in the same poll.
 #[inline(always)]
-fn tried<C, V, P, E, X: GetHome<C, Permit = P> + Outside<C, E, Checking = V>>(
+pub(crate) fn tried<C, V, P, E, X: GetHome<C, Permit = P> + Outside<C, E, Checking = V>>(
     pool: &mut X,
     moment: Moment,
-    begun: Begun,
-    answer: Result<Tried<C, P>, Unfit>,
+    deadline: Option<Moment>,
+    answer: Result<FirstTry<C, P>, Unfit>,
 ) -> Next<C, V, P, E>
-    ensures { AfterTry X.GetHome X.Outside moment answer begun pool.old result pool.new }
+    ensures { AfterTry X.GetHome X.Outside moment answer deadline pool.old result pool.new }
 {
     match answer {
-        Ok(Tried::Served(taken, _)) => Next::Answer(Ok(taken)),
-        Ok(Tried::Taken(taken, _)) => {
+        Ok(FirstTry::Tried(_, Tried::Served(taken, _))) => Next::Answer(Ok(taken)),
+        Ok(FirstTry::Tried(get, Tried::Taken(taken, _))) => {
             let Taken {
                 key,
                 mut connection,
@@ -172,9 +173,14 @@ fn tried<C, V, P, E, X: GetHome<C, Permit = P> + Outside<C, E, Checking = V>>(
                 connection,
                 permit,
             };
+            let begun = Begun { get, deadline };
             check(pool, moment, begun, CheckUnderWay { taken, checking })
         }
-        Ok(Tried::Waiting(_)) => Next::Stand(Stage::Waiting(begun)),
+        Ok(FirstTry::Tried(get, Tried::Waiting(_))) => {
+            Next::Stand(Stage::Waiting(Begun { get, deadline }))
+        }
+        Ok(FirstTry::Memory) => Next::Answer(Err(RunError::Memory)),
+        Ok(FirstTry::Exhausted) => Next::Answer(Err(RunError::Exhausted)),
         Err(Unfit) => Next::Answer(Err(RunError::TimedOut)),
     }
 }
@@ -188,8 +194,11 @@ fn take<C, V, P, E, X: GetHome<C, Permit = P> + Outside<C, E, Checking = V>>(
 ) -> Next<C, V, P, E>
     ensures { Tries X.GetHome X.Outside moment begun pool.old result pool.new }
 {
-    let answer = pool.try_get(moment, begun.get);
-    tried(pool, moment, begun, answer)
+    let Begun { get, deadline } = begun;
+    match pool.try_get(moment, get) {
+        Ok(answer) => tried(pool, moment, deadline, Ok(FirstTry::Tried(get, answer))),
+        Err(Unfit) => Next::Answer(Err(RunError::TimedOut)),
+    }
 }
 
 /// Makes a later poll of a get that holds no connection: it tries, or ends if no handle is alive.
@@ -208,28 +217,6 @@ fn retry<C, V, P, E, X: GetHome<C, Permit = P> + Outside<C, E, Checking = V>>(
     Next::Answer(Err(RunError::TimedOut))
 }
 
-/// Handles the result of a get's begin and first try.
-#[inline(always)]
-pub(crate) fn follow<C, V, P, E, X: GetHome<C, Permit = P> + Outside<C, E, Checking = V>>(
-    pool: &mut X,
-    moment: Moment,
-    timeout: Duration,
-    first: Result<FirstTry<C, P>, Unfit>,
-) -> Next<C, V, P, E>
-    ensures { AfterStart X.GetHome X.Outside moment first (as_nanos timeout) pool.old result
-        pool.new }
-{
-    match first {
-        Ok(FirstTry::Tried(get, answer)) => {
-            let deadline = deadline(moment, timeout);
-            tried(pool, moment, Begun { get, deadline }, Ok(answer))
-        }
-        Ok(FirstTry::Memory) => Next::Answer(Err(RunError::Memory)),
-        Ok(FirstTry::Exhausted) => Next::Answer(Err(RunError::Exhausted)),
-        Err(Unfit) => Next::Answer(Err(RunError::TimedOut)),
-    }
-}
-
 /// Makes the part of a poll before the deadline is compared.
 // Inlining saves three instructions of a waiting get.
 #[inline(always)]
@@ -245,7 +232,7 @@ pub(crate) fn advance<C, V, P, E, X: GetHome<C, Permit = P> + Outside<C, E, Chec
     match stage {
         Stage::Fresh => {
             let first = pool.start(seen.moment);
-            follow(pool, seen.moment, timeout, first)
+            tried(pool, seen.moment, deadline(seen.moment, timeout), first)
         }
         Stage::Trying(begun) | Stage::Waiting(begun) => retry(pool, seen, begun),
         Stage::Checking(begun, held) => {
@@ -365,19 +352,4 @@ pub(crate) fn end<C, V, P, E, X: GetHome<C, Permit = P> + Outside<C, E, Checking
         },
         Next::Stand(stage) => settle(pool, moment, stage),
     }
-}
-
-/// Makes a first poll, after the `look`.
-#[inline(always)]
-pub(crate) fn begin<C, V, P, E, X: GetHome<C, Permit = P> + Outside<C, E, Checking = V>>(
-    pool: &mut X,
-    moment: Moment,
-    timeout: Duration,
-) -> Settled<C, V, P, E>
-    ensures { Starts X.GetHome X.Outside moment (as_nanos timeout) pool.old result
-        pool.new }
-{
-    let first = pool.start(moment);
-    let next = follow(pool, moment, timeout, first);
-    end(pool, moment, next)
 }

@@ -1,12 +1,12 @@
 //! The state of a get, its polls, and its cancellation.
 ghost use Rattle.std.specs.Prelude.{◌≡◌, true};
 ghost use Rattle.std.specs.Duration.{as_nanos};
-ghost use Rattle.bb8_lock.specs.Polls.{holds_nothing, is_done, rest_of, AfterStart, EndsPoll, GetPolls, Starts, CancelsFree, CancelsHeld, Cancels};
+ghost use Rattle.bb8_lock.specs.Polls.{holds_nothing, is_done, rest_of, AfterTry, EndsPoll, IsDeadline, GetPolls, Starts, CancelsFree, CancelsHeld, Cancels};
 ghost use Rattle.bb8_lock.specs.declared.gets.state.Stage.TheVariants.{Fresh as IsFresh, Done as IsDone};
 
 use super::home::{FirstTry, GetHome, LetGo, Taken, Tried};
 use super::outside::Outside;
-use super::rows::{advance, ask, begin, end, follow, leave, settle, take_back};
+use super::rows::{advance, ask, deadline, end, leave, settle, take_back, tried};
 use bb8_core::api::{Moment, RunError};
 use bb8_core::internals::{GetKey, Reason, Unfit};
 use futures::task::Poll;
@@ -185,12 +185,12 @@ impl<C, V, P> GetState<C, V, P> {
         first: Result<FirstTry<C, P>, Unfit>,
     ) -> Poll<Result<Taken<C, P>, RunError<E>>>
         requires { self.old.stage ≡ IsDone }
-        ensures { (next : _) × (x1 : X)
-            × AfterStart X.GetHome X.Outside moment first (as_nanos timeout) pool next x1
+        ensures { (next : _) × (due : _) × (x1 : X) × IsDeadline moment (as_nanos timeout) due
+            × AfterTry X.GetHome X.Outside moment first due pool next x1
             × ((x' : X) × EndsPoll X.GetHome X.Outside moment next x1
             (record { answer = result; stage = self.new.stage }) x' × X.goes x') }
     {
-        match follow(&mut pool, moment, timeout, first) {
+        match tried(&mut pool, moment, deadline(moment, timeout), first) {
             Next::Answer(answer) => {
                 pool.go();
                 Poll::Ready(answer)
@@ -231,7 +231,9 @@ impl<C, V, P> GetState<C, V, P> {
         ensures { Starts X.GetHome X.Outside moment (as_nanos timeout) pool.old
             (record { answer = result; stage = self.new.stage }) pool.new }
     {
-        let Settled { answer, stage } = begin(pool, moment, timeout);
+        let first = pool.start(moment);
+        let next = tried(pool, moment, deadline(moment, timeout), first);
+        let Settled { answer, stage } = end(pool, moment, next);
         self.stand(stage);
         answer
     }

@@ -3,7 +3,6 @@
 //! for every N. They share connections whose board counts each one's drops, and the test of whether
 //! a run met a refusal.
 
-mod bare;
 mod live;
 mod rows;
 mod vast;

@@ -1,14 +1,10 @@
-//! A driver that sleeps while it has nothing to do, and when it is next due.
+//! A driver that sleeps while it has nothing to do.
 
-use super::assert_equal;
 use super::waiting::nanos;
 use bb8::{
-    Clock as PoolClock, Driver, DriverCalls, Gets, Moment, NopCustomizer, PoolCalls, PoolPermits,
-    Runtime, Service, SetClock, User,
+    Clock as PoolClock, Gets, Moment, NopCustomizer, PoolCalls, PoolPermits, Runtime, Service,
 };
-use bb8_trials::{
-    Board, Course, Errors, Number, SECOND, Server, ServerPool, builder_on, server_on,
-};
+use bb8_trials::{Board, Course, Errors, Number, Server, ServerPool, builder_on, server_on};
 use futures::executor::block_on;
 use futures::test::MockTask;
 use std::alloc::Global;
@@ -16,9 +12,6 @@ use std::sync::Arc;
 use std::test::Fail;
 use std::thread::{self, Threads};
 use std::time::{Clock, CpuClock, Duration};
-
-/// One millisecond in nanoseconds.
-const MILLI: u64 = 1_000_000;
 
 /// The counts of a clock.
 #[derive(Drop)]
@@ -213,69 +206,5 @@ fn grant_and_end_wake_the_driver(rt: HostRuntime) -> Result<(), Fail> {
         assert!(&rt; first < 15_000_000, "{first} nanoseconds");
         assert!(&rt; last < 15_000_000, "{last} nanoseconds");
     }
-    Ok(())
-}
-
-/// Asks a driver when it is next due.
-#[derive(Drop)]
-struct AsksDue<R> {
-    rt: R,
-    clock: SetClock,
-    board: Arc<Board, Global>,
-}
-
-impl<R: Runtime> User<Server, Errors, NopCustomizer, SetClock, R> for AsksDue<R> {
-    /// In milliseconds, before each turn and at the end.
-    type Outcome = Option<[Option<u64>; 5]>;
-
-    fn run<L: PoolPermits>(
-        &self,
-        pool: &ServerPool<SetClock, R, L>,
-        driver: &mut Driver<Server, Errors, NopCustomizer, SetClock, R, L>,
-    ) -> Option<[Option<u64>; 5]> {
-        let task = MockTask::new(&self.rt).ok()?;
-        let mut found = [None; 5];
-        let mut get = pool.get();
-        for (turn, due) in found.iter_mut().enumerate() {
-            *due = driver.next_due().map(|due| due.0 / MILLI);
-            if turn == 1 {
-                drop(task.poll(&mut get));
-                self.board.fails.set(1);
-            }
-            if turn == 2 {
-                self.board.opening.set(Course::Lasts);
-                self.clock.set(Moment(SECOND + 400 * MILLI));
-            }
-            if turn == 3 {
-                self.board.opening.set(Course::Passes);
-            }
-            let _ = driver.turn_now();
-        }
-        Some(found)
-    }
-}
-
-/// The first tick, half a minute after the pool was made; the second try, 400 milliseconds after
-/// the first one failed; at once, while that is pending; and the tick again.
-#[test]
-fn next_due_is_the_earliest(rt: HostRuntime) -> Result<(), Fail> {
-    let board = Board::new(rt.alloc())?;
-    let clock = SetClock::new(rt.alloc(), Moment(SECOND))?;
-    let user = AsksDue {
-        rt,
-        clock: clock.try_clone()?,
-        board: Arc::try_clone(&board)?,
-    };
-    let found = builder_on(&board)?
-        .max_size(1)
-        .with_pool(server_on(&board)?, clock, rt, &user)?;
-    let wanted = [
-        Some(31_000),
-        Some(31_000),
-        Some(1400),
-        Some(0),
-        Some(31_000),
-    ];
-    assert_equal(&rt, found, Some(wanted));
     Ok(())
 }

@@ -328,31 +328,15 @@ fn return_wakes_a_waiter(rt: HostRuntime) -> Result<(), Fail> {
 }
 
 /// So do the other events that may serve a get. The cancelled get hands its turn on 20 milliseconds
-/// after the return, which has notified the sleepers, and so 30 before the next poll.
+/// after the return, which has notified the sleepers, and so 30 before the next poll. After a
+/// detach the waiter requests another connection, opened by the driver. In a closed pool it times
+/// out at once, and not after its pool's 30 seconds.
 #[test]
-fn add_and_a_cancelled_get_wake_a_waiter(rt: HostRuntime) -> Result<(), Fail> {
-    for cause in [Cause::Adding, Cause::HandOn] {
+fn each_cause_wakes_a_waiter(rt: HostRuntime) -> Result<(), Fail> {
+    for cause in [Cause::Adding, Cause::HandOn, Cause::Detach, Cause::Close] {
         let least = quickest(rt, Trial { cause, ..ONE })?;
         assert!(&rt; least < 15_000_000, "{least} nanoseconds");
     }
-    Ok(())
-}
-
-/// A detached connection wakes the waiter, which then requests another one, opened by the driver.
-#[test]
-fn detach_wakes_a_waiter(rt: HostRuntime) -> Result<(), Fail> {
-    let cause = Cause::Detach;
-    let least = quickest(rt, Trial { cause, ..ONE })?;
-    assert!(&rt; least < 15_000_000, "{least} nanoseconds");
-    Ok(())
-}
-
-/// A thread that waits in a closed pool times out at once, and not after its pool's 30 seconds.
-#[test]
-fn close_wakes_waiters(rt: HostRuntime) -> Result<(), Fail> {
-    let cause = Cause::Close;
-    let least = quickest(rt, Trial { cause, ..ONE })?;
-    assert!(&rt; least < 15_000_000, "{least} nanoseconds");
     Ok(())
 }
 

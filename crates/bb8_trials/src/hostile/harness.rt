@@ -7,22 +7,12 @@ use crate::hostile::gauge::Gauge;
 use crate::hostile::manager::HostileManager;
 use crate::hostile::sink::HostileSink;
 use crate::hostile::source::RandomSource;
-use bb8::{Driver, Memory, Pool, State};
+use bb8::{Memory, Pool, State};
 use std::alloc::Global;
 use std::sync::atomic::AtomicU64;
 
 /// A pool whose manager, error sink, customizer and clock are hostile.
 pub type HostilePool<R, L> = Pool<
-    HostileManager,
-    HostileSink,
-    HostileCustomizer,
-    HostileClock,
-    R,
-    L,
->;
-
-/// The driver of such a pool.
-pub type HostileDriver<R, L> = Driver<
     HostileManager,
     HostileSink,
     HostileCustomizer,

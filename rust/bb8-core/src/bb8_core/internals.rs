@@ -89,11 +89,11 @@ impl<C, A> PoolInternals<C, A> {
     /// is alive, nothing changes.
     pub fn begin(&mut self, at: Moment) -> Result<BeginAnswer, Unfit> {
         if !self.fits_begin() {
-            self.accesses.end_unfit(AccessCounter::none());
+            self.accesses.end_unfit(AccessCounter::NONE);
             return Err(Unfit);
         }
         self.latest = self.latest.max(at.0);
-        self.accesses.end(AccessCounter::none());
+        self.accesses.end(AccessCounter::NONE);
         if !self.gets.has_number() {
             return Ok(BeginAnswer::Exhausted);
         }
@@ -114,8 +114,7 @@ impl<C, A> PoolInternals<C, A> {
     // Inlining saves 49 instructions of an unchecked pair.
     #[inline(always)]
     pub fn serve_at_once(&mut self, at: Moment) -> Option<AtOnce<C>> {
-        self.limits();
-        let mut accesses = AccessCounter::none();
+        let mut accesses = AccessCounter::NONE;
         let now = self.latest.max(at.0);
         if checks_first(&self.config, &self.records, now, &mut accesses) {
             self.accesses.end(accesses);
@@ -149,38 +148,27 @@ impl<C, A> PoolInternals<C, A> {
     /// Begins a get and lets it try, as `begin` and `try_get` would, in one step. A get that is
     /// served leaves no entry. Any other is added in its final state, without a lookup. If no
     /// handle is alive, nothing changes.
-    // Inlining saves 37 instructions of a pair.
+    // Inlining saves 33 instructions of a pair.
     #[inline(always)]
     pub fn start(&mut self, at: Moment) -> Result<Started<C>, Unfit> {
-        if !self.fits_begin() {
-            self.accesses.end_unfit(AccessCounter::none());
+        if self.handles == 0 {
+            self.accesses.end_unfit(AccessCounter::NONE);
             return Err(Unfit);
         }
-        Ok(self.start_fitting(at))
-    }
-
-    /// Does what `start` does, while a handle is alive.
-    // Inlining saves 51 instructions of a pair.
-    #[inline(always)]
-    fn start_fitting(&mut self, at: Moment) -> Started<C> {
-        let mut accesses = AccessCounter::none();
+        let mut accesses = AccessCounter::NONE;
         let now = self.latest.max(at.0);
         self.latest = now;
-        if !self.gets.has_number() {
+        let Some(number) = self.gets.reserve_one() else {
             self.accesses.end(accesses);
-            return Started::Exhausted;
-        }
-        if !self.gets.reserve_one() {
-            self.accesses.end(accesses);
-            return Started::Memory;
-        }
-        self.counters.started += 1;
-        let next = GetKey {
-            number: self.gets.next_number(),
-            place: 0,
+            if self.gets.has_number() {
+                return Ok(Started::Memory);
+            }
+            return Ok(Started::Exhausted);
         };
-        let checked = checks_first(&self.config, &self.records, now, &mut accesses);
+        self.counters.started += 1;
+        let next = GetKey { number, place: 0 };
         let strategy = self.config.queue_strategy;
+        let checked = checks_first(&self.config, &self.records, now, &mut accesses);
         match self
             .records
             .take(strategy, holder(checked, next), &mut accesses)
@@ -191,7 +179,7 @@ impl<C, A> PoolInternals<C, A> {
                 let alive = self.gets.alive();
                 let due = due_waiting(&self.config, self.handles, &self.records, alive);
                 let grant = self.records.grant(due, false);
-                Started::Tried(get, TryAnswer::Waiting(grant))
+                Ok(Started::Tried(get, TryAnswer::Waiting(grant)))
             }
             Some((key, conn)) => {
                 let wanted = want_with_handle(&self.config, &self.records);
@@ -199,12 +187,12 @@ impl<C, A> PoolInternals<C, A> {
                 if checked {
                     let get = self.gets.bear_holding(key.number);
                     self.accesses.end(accesses);
-                    return Started::Tried(get, TryAnswer::Taken(key, conn, grant));
+                    return Ok(Started::Tried(get, TryAnswer::Taken(key, conn, grant)));
                 }
                 self.accesses.end(accesses);
                 let _ = self.gets.begin_and_end();
                 self.counters.serve(None, now);
-                Started::Tried(next, TryAnswer::Served(key, conn, grant))
+                Ok(Started::Tried(next, TryAnswer::Served(key, conn, grant)))
             }
         }
     }
@@ -218,7 +206,7 @@ impl<C, A> PoolInternals<C, A> {
     // Inlining saves 40 instructions of a waiting get.
     #[inline(always)]
     pub fn try_get(&mut self, at: Moment, get: GetKey) -> Result<TryAnswer<C>, Unfit> {
-        let mut accesses = AccessCounter::none();
+        let mut accesses = AccessCounter::NONE;
         let getting = self.gets.getting(get, &mut accesses);
         if !is_trying(getting) {
             self.accesses.end_unfit(accesses);
@@ -273,7 +261,7 @@ impl<C, A> PoolInternals<C, A> {
         get: GetKey,
         hint: usize,
     ) -> Result<CheckedOkAnswer, Unfit> {
-        let mut accesses = AccessCounter::none();
+        let mut accesses = AccessCounter::NONE;
         match self.gets.finish_holding(get, &mut accesses) {
             None => {
                 self.accesses.end_unfit(accesses);
@@ -306,7 +294,7 @@ impl<C, A> PoolInternals<C, A> {
         broken: bool,
         hint: usize,
     ) -> Result<CheckedErrAnswer<C>, C> {
-        let mut accesses = AccessCounter::none();
+        let mut accesses = AccessCounter::NONE;
         let Some(held) = self.gets.let_go(get, &mut accesses) else {
             self.accesses.end_unfit(accesses);
             return Err(conn);
@@ -345,7 +333,7 @@ impl<C, A> PoolInternals<C, A> {
         reason: Reason,
         broken: bool,
     ) -> Result<GiveUpAnswer<C>, Unfit> {
-        let mut accesses = AccessCounter::none();
+        let mut accesses = AccessCounter::NONE;
         let Some(getting) = self.gets.end(get, &mut accesses) else {
             self.accesses.end_unfit(accesses);
             return Err(Unfit);
@@ -371,7 +359,7 @@ impl<C, A> PoolInternals<C, A> {
         broken: bool,
         hint: usize,
     ) -> Result<GiveUpAnswer<C>, C> {
-        let mut accesses = AccessCounter::none();
+        let mut accesses = AccessCounter::NONE;
         let Some((held, first_wait)) = self.gets.finish_holding(get, &mut accesses) else {
             self.accesses.end_unfit(accesses);
             return Err(conn);
@@ -436,7 +424,7 @@ impl<C, A> PoolInternals<C, A> {
         broken: bool,
     ) -> Result<PutBackAnswer<C>, C> {
         let now = self.latest.max(at.0);
-        let mut accesses = AccessCounter::none();
+        let mut accesses = AccessCounter::NONE;
         let ended = k.number < self.closed_below;
         let holder = Holder::Guard;
         match self.records.put_back(
@@ -482,7 +470,7 @@ impl<C, A> PoolInternals<C, A> {
     /// granted, and the longest waiter is notified, as when a connection is closed. If no guard
     /// holds it, nothing changes. It is looked up twice.
     pub fn detach(&mut self, at: Moment, k: Key) -> Result<DetachAnswer, Unfit> {
-        let mut accesses = AccessCounter::none();
+        let mut accesses = AccessCounter::NONE;
         if !self.records.is_guarded(k, &mut accesses) {
             self.accesses.end_unfit(accesses);
             return Err(Unfit);
@@ -507,7 +495,7 @@ impl<C, A> PoolInternals<C, A> {
     /// connection. It is looked up once.
     pub fn opened(&mut self, at: Moment, a: Key, conn: C) -> Result<OpenedAnswer<C>, C> {
         let now = self.latest.max(at.0);
-        let mut accesses = AccessCounter::none();
+        let mut accesses = AccessCounter::NONE;
         if a.number < self.closed_below {
             if !self.records.end_claimed(a, &mut accesses) {
                 self.accesses.end_unfit(accesses);
@@ -535,7 +523,7 @@ impl<C, A> PoolInternals<C, A> {
     /// Ends a claimed approval whose connection attempt failed. No get is notified. If the number
     /// is not that of a claimed approval, nothing changes. It is looked up once.
     pub fn failed(&mut self, at: Moment, approval: Key) -> Result<FailedAnswer, Unfit> {
-        let mut accesses = AccessCounter::none();
+        let mut accesses = AccessCounter::NONE;
         if !self.records.end_claimed(approval, &mut accesses) {
             self.accesses.end_unfit(accesses);
             return Err(Unfit);
@@ -551,12 +539,12 @@ impl<C, A> PoolInternals<C, A> {
     /// alive, nothing changes, and `Err` has it.
     pub fn add(&mut self, at: Moment, conn: C, broken: bool) -> Result<AddAnswer<C>, C> {
         if !self.fits_add() {
-            self.accesses.end_unfit(AccessCounter::none());
+            self.accesses.end_unfit(AccessCounter::NONE);
             return Err(conn);
         }
         let now = self.latest.max(at.0);
         self.latest = now;
-        let mut accesses = AccessCounter::none();
+        let mut accesses = AccessCounter::NONE;
         if broken {
             self.accesses.end(accesses);
             return Ok(AddAnswer::Broken(conn));

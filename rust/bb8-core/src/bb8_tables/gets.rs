@@ -107,10 +107,14 @@ impl Gets {
         Ok(())
     }
 
-    /// Reserves memory for one more get. Returns false if it is refused.
+    /// Reserves memory for one more get, and returns the number that it will have. Returns None if
+    /// no number is left or the memory is refused.
     #[inline]
-    pub fn reserve_one(&mut self) -> bool {
-        self.alive < self.peak || self.reserve_for().is_ok()
+    pub fn reserve_one(&mut self) -> Option<u64> {
+        if self.next < END_OF_NUMBERS && (self.alive < self.peak || self.reserve_for().is_ok()) {
+            return Some(self.next);
+        }
+        None
     }
 
     /// Adds a get with the next number. Memory must be reserved.
@@ -126,12 +130,6 @@ impl Gets {
         self.next += 1;
         self.alive += 1;
         GetKey { number, place }
-    }
-
-    /// Returns the number of the next get.
-    #[inline]
-    pub fn next_number(&self) -> u64 {
-        self.next
     }
 
     /// Adds a get with the next number that holds this connection at once. Memory must be reserved.
@@ -185,9 +183,7 @@ impl Gets {
     /// are alive as ever were.
     #[inline]
     pub fn begin(&mut self) -> Option<GetKey> {
-        if !self.reserve_one() {
-            return None;
-        }
+        self.reserve_one()?;
         Some(self.bear())
     }
 

@@ -26,12 +26,6 @@ pub struct Line {
 }
 
 impl Links {
-    /// Returns the indexes before and after `at`.
-    #[inline]
-    fn read(&self, at: u32) -> Link {
-        self.entries[at as usize]
-    }
-
     /// Adds an index that links to itself.
     fn append(&mut self, place: u32) -> Result<(), AllocError> {
         let link = Link {
@@ -90,7 +84,7 @@ impl Line {
         if self.len == 0 {
             return None;
         }
-        Some(self.links.read(END).after as usize)
+        Some(self.links.entries[END as usize].after as usize)
     }
 
     /// Returns the index at the back, which was added last.
@@ -99,13 +93,13 @@ impl Line {
         if self.len == 0 {
             return None;
         }
-        Some(self.links.read(END).before as usize)
+        Some(self.links.entries[END as usize].before as usize)
     }
 
     /// Returns the index after one that is in the list.
     #[inline]
     pub fn next(&self, place: usize) -> Option<usize> {
-        let next = self.links.read(place as u32).after;
+        let next = self.links.entries[place].after;
         if next == END {
             return None;
         }
@@ -115,7 +109,7 @@ impl Line {
     /// Adds an index at the back.
     #[inline]
     pub fn push(&mut self, place: usize) {
-        let last = self.links.read(END).before;
+        let last = self.links.entries[END as usize].before;
         self.links.join(last, place as u32);
         self.links.join(place as u32, END);
         self.len += 1;
@@ -126,7 +120,7 @@ impl Line {
     pub fn leave(&mut self, place: usize) {
         let _links = &self.links;
         let at = place as u32;
-        let link = self.links.read(at);
+        let link = self.links.entries[at as usize];
         self.links.join(link.before, link.after);
         self.links.join(at, at);
         self.len -= 1;
@@ -137,7 +131,7 @@ impl Line {
     pub fn unlink(&mut self, place: usize) {
         let _links = &self.links;
         let at = place as u32;
-        let link = self.links.read(at);
+        let link = self.links.entries[at as usize];
         if link.after != at {
             self.links.join(link.before, link.after);
             self.links.join(at, at);

@@ -1,4 +1,4 @@
-use Rattle.bb8_core.proofs.Words.{GiveUp, None, reason_of, refl, Unfit}
+use Rattle.bb8_core.proofs.Words.{GiveUp, None, reason_of, refl, Unfit, arith, nat_tests}
 use Rattle.bb8_core.specs.StepAnswers.{answer_of_give_up}
 use Rattle.bb8_core.proofs.HandedOver.{fits_told, hands_over, stays_prompt}
 use Rattle.bb8_core.proofs.handing.give_up.Goals as goal
@@ -9,11 +9,7 @@ try_of-tried-requires g c =
     c.notified.result c.in-Ok.ensures.step.0 c.notified.ensures
 
 pub returns-in-Ok-clause-step : goal.returns-in-Ok-clause-step
-returns-in-Ok-clause-step g c = (
-  hands_over c.try_of-tried.new.pool c.args.at.0 (GiveUp c.args.get.number (reason_of c.args.reason) None c.args.broken) (answer_of_give_up c.in-Ok.outcome) c.notified.result c.try_of-tried.result
-      c.in-Ok.ensures.step.0 c.notified.ensures c.try_of-tried.ensures.follows,
-  tt,
-)
+returns-in-Ok-clause-step g c = grind (arith, nat_tests, hands_over)
 
 pub returns-in-Ok-clause-order : goal.returns-in-Ok-clause-order
 returns-in-Ok-clause-order g c = stays_prompt _ _ c.try_of-tried.result c.args.at.0 _ _ (returns-in-Ok-clause-step g c).0

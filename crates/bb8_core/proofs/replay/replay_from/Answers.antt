@@ -1,4 +1,4 @@
-use Rattle.bb8_core.proofs.Words.{ℕ, take, ◌+◌, sym, refl, subst, List, [], ◌∷◌, ◌++◌, get_or, ◌<◌, ◌≤◌, length, arith, Ledger, Later, KeepsLimits, KeepsLaws, KeepsPromises, IsRun, answer_of, opening, keeps_limits, keeps_laws, keeps_promises, Event, act_of}
+use Rattle.bb8_core.proofs.Words.{ℕ, take, ◌+◌, sym, refl, subst, List, [], ◌∷◌, ◌++◌, get_or, ◌<◌, ◌≤◌, length, arith, Ledger, Later, KeepsLimits, KeepsLaws, KeepsPromises, IsRun, answer_of, opening, keeps_limits, keeps_laws, keeps_promises, Event, act_of, nat_tests}
 use Rattle.bb8_ledger.specs.Handed.{IsOrderly}
 use Rattle.bb8_ledger.proofs.Handed.{keeps_order}
 use Rattle.std.proofs.lemmas.List.{take_all, take_more}
@@ -37,9 +37,7 @@ returns-clause-run c =
     (last.0, subst (λ (xs : List Event). IsRun first xs c.loop-event.answers.items last.0) (take_all c.loop-event.event-index c.args.events.now past) last.1, last.2)
 
 pub returns-clause-answers : goal.returns-clause-answers
-returns-clause-answers c =
-    let r = returns-clause-run c in
-    run_length (opening c.args.config c.args.first_number c.args.first_get) r.0 c.args.events.now c.loop-event.answers.items r.1
+returns-clause-answers c = grind (arith, nat_tests, returns-clause-run c, run_length (opening c.args.config c.args.first_number c.args.first_get))
 
 pub returns-clause-limits : goal.returns-clause-limits
 returns-clause-limits c =

@@ -55,8 +55,7 @@ fn both(alloc: Global) -> Result<[Notes; 2], AllocError> {
 #[test]
 fn succeeds_audit_of_a_history(rt: HostRuntime) -> Result<(), Fail> {
     let [first, second] = both(rt.alloc())?;
-    assert!(rt; audit(&history(), &[first, second]));
-    assert!(rt; audit(&[], &[]));
+    assert!(rt; audit(&history(), &[first, second]) && audit(&[], &[]));
     let [first, second] = both(rt.alloc())?;
     assert!(rt;
         audit(&history(), &[second, first]),
@@ -94,63 +93,5 @@ fn journal_other_seat(rt: HostRuntime) -> Result<(), Fail> {
         }
         assert!(rt; !audit(&entries, &notes), "seat {seat} at {index}");
     }
-    Ok(())
-}
-
-#[test]
-fn entry_left_out(rt: HostRuntime) -> Result<(), Fail> {
-    let notes = both(rt.alloc())?;
-    let [first, second, third, fourth] = history();
-    assert!(rt; !audit(&[second, third, fourth], &notes));
-    assert!(rt; !audit(&[first, second, fourth], &notes));
-    assert!(rt; !audit(&[first, second, third], &notes));
-    assert!(rt; !audit(&[], &notes));
-    Ok(())
-}
-
-#[test]
-fn entries_exchanged(rt: HostRuntime) -> Result<(), Fail> {
-    let notes = both(rt.alloc())?;
-    let [first, second, third, fourth] = history();
-    assert!(rt; !audit(&[second, first, third, fourth], &notes));
-    assert!(rt; !audit(&[first, third, second, fourth], &notes));
-    assert!(rt; !audit(&[first, second, fourth, third], &notes));
-    Ok(())
-}
-
-#[test]
-fn note_missing(rt: HostRuntime) -> Result<(), Fail> {
-    let [first, second] = both(rt.alloc())?;
-    let report_of = Notes {
-        missing: 1,
-        ..second
-    };
-    assert!(rt;
-        !audit(&history(), &[first, report_of]),
-        "one is said to be missing"
-    );
-    let [first, _] = both(rt.alloc())?;
-    let fewer = notes(rt.alloc(), 1, &[(1, Answer::Joined)])?;
-    assert!(rt; !audit(&history(), &[first, fewer]), "one is not there");
-    Ok(())
-}
-
-#[test]
-fn note_made_twice(rt: HostRuntime) -> Result<(), Fail> {
-    let [first, _] = both(rt.alloc())?;
-    let more = [(1, Answer::Joined), (1, Answer::Joined), (3, Answer::Unfit)];
-    let more = notes(rt.alloc(), 1, &more)?;
-    assert!(rt; !audit(&history(), &[first, more]));
-    let [first, _] = both(rt.alloc())?;
-    let twice = notes(rt.alloc(), 1, &[(1, Answer::Joined), (1, Answer::Joined)])?;
-    assert!(rt; !audit(&history(), &[first, twice]), "in place of another");
-    Ok(())
-}
-
-#[test]
-fn note_of_another_index(rt: HostRuntime) -> Result<(), Fail> {
-    let [first, _] = both(rt.alloc())?;
-    let later = notes(rt.alloc(), 1, &[(1, Answer::Joined), (4, Answer::Unfit)])?;
-    assert!(rt; !audit(&history(), &[first, later]));
     Ok(())
 }

@@ -1,4 +1,4 @@
-//! The first script from bytes to bytes, and a replay of it, whatever requests for memory are
+//! The first script from bytes to bytes, and replays of scripts, whatever requests for memory are
 //! refused, as `gate/refusals/run` makes them. That each result is allowed is proved; here it is
 //! the script's result, or reports a refusal if there was one.
 
@@ -7,7 +7,7 @@ use crate::tests::FIRST_SCRIPT;
 use bb8_core::api::Moment;
 use bb8_core::replay::{Answer, replay};
 use bb8_runner::fault::Fault;
-use bb8_runner::lines::script_of;
+use bb8_runner::lines::{lines_of, script_of};
 use bb8_runner::script::run_script;
 use bb8_runner::verdict::Verdict;
 use std::alloc::Global;
@@ -122,38 +122,89 @@ fn is_refusal(answer: Answer) -> bool {
         Answer::Granted(grant) | Answer::Served(_, grant) | Answer::Waiting(grant) => {
             grant.withheld > 0
         }
+        Answer::Closed(_, grant, _) | Answer::Reaped { grant, .. } => grant.withheld > 0,
+        Answer::Withheld => true,
         _ => false,
     }
 }
 
-/// Replays the first script. Returns whether a result reports a refusal, and how many connections
-/// were opened. None if there is no memory for the script or the replay.
-fn replayed<R: Abort + AllocGlobal>(rt: &R) -> Option<(bool, usize)> {
+/// Passed, failed and broken checks, and cancelled ones, beside a get that waits; two connections
+/// are added, and two reaps close all. The second one asks for `min_idle`.
+const MIXED_SCRIPT: &[u8] = b"\
+    config max_size=4 min_idle=1 lifetime=2000000000 idle=1000000000\n\
+    0 begin\n\
+    0 try 0\n\
+    0 fill\n\
+    0 claim\n\
+    0 open 0\n\
+    0 begin\n\
+    0 try 1\n\
+    0 ok 1\n\
+    0 return 0\n\
+    0 begin\n\
+    0 try 2\n\
+    0 cancel 2\n\
+    0 begin\n\
+    0 try 3\n\
+    0 err 3\n\
+    0 claim\n\
+    0 open 1\n\
+    0 try 3\n\
+    0 err 3 broken\n\
+    0 claim\n\
+    0 open 2\n\
+    0 try 3\n\
+    0 cancel 3 broken\n\
+    0 cancel 0\n\
+    0 add\n\
+    0 add\n\
+    1000000000 reap\n\
+    2000000000 reap\n";
+
+/// Replays a script. Returns whether a result reports a refusal, and how many connections were
+/// opened or added: these are idle, or were closed. None if there is no memory for the script or
+/// the replay.
+fn replayed<R: Abort + AllocGlobal>(rt: &R, script: &[u8]) -> Option<(bool, u64)> {
     let alloc = rt.alloc();
-    let lines: Vec<&[u8]> = FIRST_SCRIPT
-        .split(|byte| *byte == b'\n')
-        .filter(|line| !line.is_empty())
-        .collect(alloc)
-        .ok()?;
+    let lines = lines_of(alloc, script).ok()?;
     let script = script_of(alloc, lines.as_slice()).ok()?;
     let (answers, mut pool) = replay(alloc, script.config, &script.events).ok()?;
     assert_equal(rt, answers.len(), script.events.len());
-    let entered = answers
-        .iter()
-        .filter(|answer| matches!(answer, Answer::Entered(..)))
-        .count();
+    let (mut entered, mut closed): (u64, u64) = (0, 0);
+    for answer in &answers {
+        match *answer {
+            Answer::Entered(..) | Answer::Added(..) => entered = entered.saturating_add(1),
+            Answer::Closed(..) => closed = closed.saturating_add(1),
+            Answer::Reaped { closed: more, .. } => closed = closed.saturating_add(u64::from(more)),
+            _ => {}
+        }
+    }
     let state = pool.state(Moment(0));
-    assert_equal(rt, state.connections as usize, entered);
-    assert_equal(rt, state.idle_connections as usize, entered);
+    assert_equal(
+        rt,
+        u64::from(state.connections).saturating_add(closed),
+        entered,
+    );
+    assert_equal(rt, state.idle_connections, state.connections);
     Some((answers.iter().any(|answer| is_refusal(*answer)), entered))
+}
+
+/// A replay loses no connection, whatever requests are refused.
+fn assert_whole_or_refused<R: Abort + AllocGlobal + Eprint>(rt: &R, script: &[u8], opened: u64) {
+    let mut is_whole = false;
+    if let Some((refused, entered)) = replayed(rt, script) {
+        is_whole = !refused && entered == opened;
+        assert!(rt; refused != is_whole);
+    }
+    tell(rt, is_whole);
 }
 
 #[test]
 fn replay_is_run_or_refused(rt: HostRuntime) {
-    let mut is_whole = false;
-    if let Some((refused, entered)) = replayed(&rt) {
-        is_whole = !refused && entered == 5;
-        assert!(rt; refused != is_whole);
-    }
-    tell(&rt, is_whole);
+    assert_whole_or_refused(&rt, FIRST_SCRIPT, 5);
+}
+
+#[test]
+fn replay_loses_no_connection(rt: HostRuntime) {
+    assert_whole_or_refused(&rt, MIXED_SCRIPT, 5);
 }

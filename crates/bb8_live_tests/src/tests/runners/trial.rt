@@ -51,7 +51,6 @@ pub type SlotPool<R, L> = Pool<SlotManager, NopErrorSink, NopCustomizer, SetCloc
 pub struct Bench<R: Drop, X: CountRunner> {
     pub rt: R,
     pub runner: X,
-    pub clock: SetClock,
     pub task: MockTask,
 }
 
@@ -102,14 +101,9 @@ fn run_on<R: Runtime, L: PoolPermits, T: RunnerTrial<R> + Drop>(
     let Ok(task) = MockTask::new(&rt) else {
         return Err(Memory);
     };
-    let pool: SlotPool<R, L> = builder.build_unchecked(SlotManager, clock.try_clone()?, rt, blank)?;
+    let pool: SlotPool<R, L> = builder.build_unchecked(SlotManager, clock, rt, blank)?;
     let runner = Runner::new(rt.alloc(), &pool)?;
-    let bench = Bench {
-        rt,
-        runner,
-        clock,
-        task,
-    };
+    let bench = Bench { rt, runner, task };
     trial.run(&pool, bench);
     Ok(())
 }

@@ -1,12 +1,11 @@
 //! Turns of runners: how many jobs end and run at each, and the pool's state.
 
+use super::came_to;
 use super::trial::{Bench, CountRunner, RunnerTrial, SlotPool, slots, try_runner};
-use super::{came_to, timed_out};
 use bb8::{PoolCalls, PoolPermits, Runtime};
-use bb8_trials::{LentHandle, SECOND, sizes};
-use slots::{Phase, RunnerCalls, Slot};
+use bb8_trials::sizes;
+use slots::{Phase, RunnerCalls};
 use std::process::Abort;
-use std::time::Duration;
 
 /// Five jobs that are ready at their third poll, on two slots.
 #[derive(Drop)]
@@ -71,34 +70,6 @@ impl<R: Runtime + Abort> RunnerTrial<R> for OpensFirst {
 #[test]
 fn driver_turns_before_the_jobs(rt: HostRuntime) {
     assert!(&rt; try_runner(rt, slots(1).min_idle(Some(1)), OpensFirst).is_some());
-}
-
-/// A job whose get finds the only slot checked out for longer than it may wait.
-#[derive(Drop)]
-struct TimesOut;
-
-impl<R: Runtime + Abort> RunnerTrial<R> for TimesOut {
-    fn run<L: PoolPermits, X: CountRunner>(self, pool: &SlotPool<R, L>, mut bench: Bench<R, X>) {
-        let rt = bench.rt;
-        assert!(&rt; PoolCalls::add(pool, Slot).is_ok());
-        let Some(_lent) = LentHandle::lend(pool, &bench.task) else {
-            panic!(&rt; "no slot");
-        };
-        assert!(&rt; bench.submits(1, 0));
-        assert_eq!(&rt; bench.turn(0), 0);
-        assert!(&rt; bench.runner.phase(0) == Some(Phase::Waiting));
-        bench.clock.set(bb8::Moment(SECOND));
-        assert_eq!(&rt; bench.turn(SECOND), 1);
-        assert!(&rt; bench.runner.phase(0) == Some(Phase::Ended));
-        assert!(&rt; timed_out(bench.runner.take(0)));
-        assert_eq!(&rt; PoolCalls::state(pool).statistics.get_timed_out, 1);
-    }
-}
-
-#[test]
-fn get_times_out(rt: HostRuntime) {
-    let builder = slots(1).connection_timeout(Duration::from_nanos(SECOND));
-    assert!(&rt; try_runner(rt, builder, TimesOut).is_some());
 }
 
 /// A runner that is dropped while one job has ended, two run and one waits.

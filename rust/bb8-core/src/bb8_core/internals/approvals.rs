@@ -10,7 +10,7 @@ impl<C, A> PoolInternals<C, A> {
     /// are claimed at once if `claimed` is set.
     pub fn fill(&mut self, at: Moment, claimed: bool) -> Grant {
         self.latest = self.latest.max(at.0);
-        self.accesses.end(AccessCounter::none());
+        self.accesses.end(AccessCounter::NONE);
         let wanted = want(&self.config, self.handles, &self.records);
         self.records.grant(wanted, claimed)
     }
@@ -20,7 +20,7 @@ impl<C, A> PoolInternals<C, A> {
     /// itself.
     pub fn ask(&mut self, at: Moment) -> Grant {
         self.latest = self.latest.max(at.0);
-        self.accesses.end(AccessCounter::none());
+        self.accesses.end(AccessCounter::NONE);
         let waiting = self.gets.unnotified();
         let due = due_asked(&self.config, self.handles, &self.records, waiting);
         self.records.grant(due, false)
@@ -29,7 +29,7 @@ impl<C, A> PoolInternals<C, A> {
     /// Claims the unclaimed approval with the lowest number.
     pub fn claim(&mut self, at: Moment) -> ClaimAnswer {
         self.latest = self.latest.max(at.0);
-        let mut accesses = AccessCounter::none();
+        let mut accesses = AccessCounter::NONE;
         if self.handles == 0 {
             self.accesses.end(accesses);
             return ClaimAnswer::Ended;

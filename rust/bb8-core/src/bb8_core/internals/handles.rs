@@ -8,7 +8,7 @@ impl<C, A> PoolInternals<C, A> {
     /// Returns the size and the statistics of the pool.
     pub fn state(&mut self, at: Moment) -> State {
         self.latest = self.latest.max(at.0);
-        self.accesses.end(AccessCounter::none());
+        self.accesses.end(AccessCounter::NONE);
         State {
             connections: self.records.connections(),
             idle_connections: self.records.idle_connections(),
@@ -19,11 +19,11 @@ impl<C, A> PoolInternals<C, A> {
     /// Adds a handle, if fewer than 4,294,967,295 are alive. If none is, nothing changes.
     pub fn join(&mut self, at: Moment) -> Result<JoinAnswer, Unfit> {
         if !self.fits_join() {
-            self.accesses.end_unfit(AccessCounter::none());
+            self.accesses.end_unfit(AccessCounter::NONE);
             return Err(Unfit);
         }
         self.latest = self.latest.max(at.0);
-        self.accesses.end(AccessCounter::none());
+        self.accesses.end(AccessCounter::NONE);
         if self.handles >= u32::MAX as u64 {
             return Ok(JoinAnswer::Exhausted);
         }
@@ -35,7 +35,7 @@ impl<C, A> PoolInternals<C, A> {
     /// connections are dropped here. If no handle is alive, nothing changes.
     pub fn leave(&mut self, at: Moment) -> Result<LeaveAnswer, Unfit> {
         if !self.fits_leave() {
-            self.accesses.end_unfit(AccessCounter::none());
+            self.accesses.end_unfit(AccessCounter::NONE);
             return Err(Unfit);
         }
         let mut dropped = self.records.no_list();
@@ -46,7 +46,7 @@ impl<C, A> PoolInternals<C, A> {
     /// Those for which the list has no capacity are dropped.
     pub fn leave_into(&mut self, at: Moment, closed: &mut ClosedList<C>) -> LeaveAnswer {
         self.latest = self.latest.max(at.0);
-        self.accesses.end(AccessCounter::none());
+        self.accesses.end(AccessCounter::NONE);
         if self.handles == 1 {
             self.handles = 0;
             self.closed_below = u64::MAX;
@@ -61,7 +61,7 @@ impl<C, A> PoolInternals<C, A> {
     /// nothing changes.
     pub fn close(&mut self, at: Moment) -> Result<LeaveAnswer, Unfit> {
         if !self.fits_close() {
-            self.accesses.end_unfit(AccessCounter::none());
+            self.accesses.end_unfit(AccessCounter::NONE);
             return Err(Unfit);
         }
         let mut dropped = self.records.no_list();
@@ -72,7 +72,7 @@ impl<C, A> PoolInternals<C, A> {
     /// Those for which the list has no capacity are dropped.
     pub fn close_into(&mut self, at: Moment, closed: &mut ClosedList<C>) -> LeaveAnswer {
         self.latest = self.latest.max(at.0);
-        self.accesses.end(AccessCounter::none());
+        self.accesses.end(AccessCounter::NONE);
         self.handles = 0;
         self.closed_below = u64::MAX;
         LeaveAnswer::Left(self.records.leave(closed))
@@ -81,7 +81,7 @@ impl<C, A> PoolInternals<C, A> {
     /// Returns the effective moment, and whether a handle is alive.
     pub fn look(&mut self, at: Moment) -> Looked {
         self.latest = self.latest.max(at.0);
-        self.accesses.end(AccessCounter::none());
+        self.accesses.end(AccessCounter::NONE);
         Looked {
             moment: Moment(self.latest),
             alive: self.handles > 0,

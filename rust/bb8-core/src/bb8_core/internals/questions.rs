@@ -67,7 +67,7 @@ impl<C, A> PoolInternals<C, A> {
 impl<C> PoolInternals<C> {
     /// Returns the state of a get, None if it is not alive.
     fn getting(&self, get: GetKey) -> Option<Getting> {
-        let mut accesses = AccessCounter::none();
+        let mut accesses = AccessCounter::NONE;
         let getting = self.gets.getting(get, &mut accesses);
         self.asking.forget(accesses);
         getting
@@ -95,7 +95,7 @@ impl<C> PoolInternals<C> {
 
     /// Returns whether a guard holds the connection.
     pub(crate) fn is_guarded(&self, k: Key) -> bool {
-        let mut accesses = AccessCounter::none();
+        let mut accesses = AccessCounter::NONE;
         let is_guarded = self.records.is_guarded(k, &mut accesses);
         self.asking.forget(accesses);
         is_guarded
@@ -103,7 +103,7 @@ impl<C> PoolInternals<C> {
 
     /// Returns whether the number is that of an idle connection, and so whether it may be evicted.
     pub fn is_idle(&self, k: Key) -> bool {
-        let mut accesses = AccessCounter::none();
+        let mut accesses = AccessCounter::NONE;
         let is_idle = self.records.is_idle(k, &mut accesses);
         self.asking.forget(accesses);
         is_idle
@@ -111,7 +111,7 @@ impl<C> PoolInternals<C> {
 
     /// Returns whether the number is that of a claimed approval.
     pub(crate) fn is_claimed(&self, k: Key) -> bool {
-        let mut accesses = AccessCounter::none();
+        let mut accesses = AccessCounter::NONE;
         let is_claimed = self.records.is_claimed(k, &mut accesses);
         self.asking.forget(accesses);
         is_claimed
@@ -119,7 +119,7 @@ impl<C> PoolInternals<C> {
 
     /// Returns the key of a connection or approval, None if it has ended.
     pub fn find(&self, number: u64) -> Option<Key> {
-        let mut accesses = AccessCounter::none();
+        let mut accesses = AccessCounter::NONE;
         let found = self.records.find(number, &mut accesses);
         self.asking.forget(accesses);
         found
@@ -127,7 +127,7 @@ impl<C> PoolInternals<C> {
 
     /// Returns the key of a get, None if it has ended.
     pub fn find_get(&self, number: u64) -> Option<GetKey> {
-        let mut accesses = AccessCounter::none();
+        let mut accesses = AccessCounter::NONE;
         let found = self.gets.find(number, &mut accesses);
         self.asking.forget(accesses);
         found

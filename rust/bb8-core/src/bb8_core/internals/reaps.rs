@@ -20,7 +20,7 @@ impl<C, A> PoolInternals<C, A> {
     /// granted, and the longest waiter is notified, as when a guard detaches it. If the number is
     /// not that of an idle connection, nothing changes. It is looked up once.
     pub fn evict(&mut self, at: Moment, k: Key) -> Result<EvictAnswer<C>, Unfit> {
-        let mut accesses = AccessCounter::none();
+        let mut accesses = AccessCounter::NONE;
         match self.records.evict(k, &mut accesses) {
             None => {
                 self.accesses.end_unfit(accesses);
@@ -52,7 +52,7 @@ impl<C, A> PoolInternals<C, A> {
     pub fn reap_into(&mut self, at: Moment, closed: &mut ClosedList<C>) -> ReapAnswer {
         let now = self.latest.max(at.0);
         self.latest = now;
-        let mut accesses = AccessCounter::none();
+        let mut accesses = AccessCounter::NONE;
         if self.handles == 0 {
             self.accesses.end(accesses);
             return ReapAnswer::Ended;
@@ -75,7 +75,7 @@ impl<C, A> PoolInternals<C, A> {
         let now = self.latest.max(at.0);
         self.latest = now;
         self.retired = self.records.next_number();
-        let mut accesses = AccessCounter::none();
+        let mut accesses = AccessCounter::NONE;
         if self.handles == 0 {
             self.accesses.end(accesses);
             return ReapAnswer::Ended;

@@ -88,14 +88,11 @@ impl LatestAccesses {
 }
 
 impl AccessCounter {
-    /// Returns a counter at zero.
-    #[inline]
-    pub fn none() -> Self {
-        AccessCounter {
-            reads: 0,
-            searched: 0,
-        }
-    }
+    /// A counter at zero.
+    pub const NONE: Self = AccessCounter {
+        reads: 0,
+        searched: 0,
+    };
 
     /// Counts one more entry.
     #[inline]

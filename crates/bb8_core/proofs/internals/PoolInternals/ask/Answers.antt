@@ -2,7 +2,7 @@ use Rattle.bb8_core.proofs.Words.{arith, refl, view_of}
 use Rattle.bb8_ledger.specs.Acts as acts
 use Rattle.bb8_core.proofs.Fitting.{due_fits}
 use Rattle.bb8_core.proofs.Steps.{meets_ask, led, at_view}
-use Rattle.bb8_core.proofs.StepBounds.{bounded, reads_none, searched_none}
+use Rattle.bb8_core.proofs.StepBounds.{bounded}
 use Rattle.bb8_core.proofs.internals.PoolInternals.ask.Goals as goal
 
 pub grant-requires : goal.grant-requires
@@ -16,4 +16,4 @@ pub invariant_of-self : goal.invariant_of-self
 invariant_of-self g c = (led _ c.args.at.0 acts.Ask _ (returns-clause-step g c), c.self.invariant.1)
 
 pub returns-clause-bounds : goal.returns-clause-bounds
-returns-clause-bounds g c = bounded _ c.args.at.0 acts.Ask _ (returns-clause-step g c) c.self.view_is c.end.ensures (omega (arith, reads_none c.none.ensures)) (omega (arith, searched_none c.none.ensures))
+returns-clause-bounds g c = bounded _ c.args.at.0 acts.Ask _ (returns-clause-step g c) c.self.view_is c.end.ensures (omega (arith)) (omega (arith))

@@ -1,4 +1,4 @@
-use Rattle.bb8_core.proofs.Words.{refl, arith, view_of}
+use Rattle.bb8_core.proofs.Words.{refl, arith, view_of, nat_tests}
 use Rattle.bb8_ledger.specs.Acts as acts
 use Rattle.bb8_core.proofs.Fitting.{shown_fits}
 use Rattle.bb8_core.proofs.Runs.{fitting, unfit_step}
@@ -30,10 +30,7 @@ pub invariant_of-self-in-None : goal.invariant_of-self-in-None
 invariant_of-self-in-None g c = (led _ c.args.at.0 acts.Begin _ (returns-in-None-clause-step g c).0, c.self.invariant.1)
 
 pub overflow_add-self : goal.overflow_add-self
-overflow_add-self g c =
-    let fit = shown_fits (view_of c.self.inside) c.self.invariant.0 in
-    let few = left c.self.inside.gets.next c.has_number.ensures c.if-not-has_number.false in
-    omega (arith, fit.started_few)
+overflow_add-self g c = grind (arith, nat_tests, shown_fits (view_of c.self.inside) c.self.invariant.0, left c.self.inside.gets.next c.has_number.ensures c.if-not-has_number.false)
 
 pub returns-in-Some-clause-step : goal.returns-in-Some-clause-step
 returns-in-Some-clause-step g c = (

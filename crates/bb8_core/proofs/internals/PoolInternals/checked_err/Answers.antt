@@ -5,7 +5,7 @@ use Rattle.bb8_core.proofs.Runs.{unfit_gets}
 use Rattle.bb8_core.proofs.Steps.{led, at_view}
 use Rattle.bb8_core.proofs.GetEnds.{notices, meets_invalid}
 use Rattle.std.proofs.Math.Nat.{min-le_left}
-use Rattle.bb8_core.proofs.StepBounds.{bounded, one_few, reads_none, searched_none}
+use Rattle.bb8_core.proofs.StepBounds.{bounded, one_few}
 use Rattle.bb8_core.proofs.internals.PoolInternals.checked_err.Goals as goal
 
 pub returns-in_default-clause-step : goal.returns-in_default-clause-step
@@ -44,4 +44,4 @@ pub invariant_of-self-2 : goal.invariant_of-self-2
 invariant_of-self-2 g c = (led _ c.args.at.0 (acts.CheckedErr c.args.get.number c.args.broken) _ (returns-clause-step g c).0, c.self.invariant.1)
 
 pub returns-clause-bounds : goal.returns-clause-bounds
-returns-clause-bounds g c = bounded _ c.args.at.0 (acts.CheckedErr c.args.get.number c.args.broken) _ (returns-clause-step g c).0 c.self.view_is c.end.ensures (omega (arith, one_few, min-le_left, reads_none c.none-accesses.ensures)) (omega (arith, one_few, min-le_left, searched_none c.none-accesses.ensures))
+returns-clause-bounds g c = bounded _ c.args.at.0 (acts.CheckedErr c.args.get.number c.args.broken) _ (returns-clause-step g c).0 c.self.view_is c.end.ensures (omega (arith, one_few, min-le_left)) (omega (arith, one_few, min-le_left))

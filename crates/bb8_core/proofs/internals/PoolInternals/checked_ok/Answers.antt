@@ -1,4 +1,4 @@
-use Rattle.bb8_core.proofs.Words.{ℕ, Some, sym, ap, refl, ◌∙◌, arith, StateView, view_of, get, holding_is}
+use Rattle.bb8_core.proofs.Words.{ℕ, Some, sym, ap, refl, ◌∙◌, arith, StateView, view_of, get, holding_is, nat_tests}
 use Rattle.bb8_ledger.specs.Acts as acts
 use Rattle.bb8_tables.specs.Machine as machine
 use Rattle.bb8_core.proofs.Fitting.{fits_held, unfit_held, held_out, ended_few}
@@ -12,9 +12,12 @@ hand_over-key-requires g c = record { out = held_out (view_of c.self.inside) c.a
 
 pub serve-requires : goal.serve-requires
 serve-requires g c =
-    let st = holding_is (get c.self.inside.gets.places c.args.get.number) c.in-Some.held c.in-Some.ensures.some.0 in
-    let few = ended_few (view_of c.self.inside) c.args.get.number c.self.invariant.0 (st.0, st.1) c.finish_holding.ensures.numbers in
-    record { direct = omega (arith, few); waited = omega (arith, few) }
+    grind (
+      arith,
+      nat_tests,
+      holding_is (get c.self.inside.gets.places c.args.get.number) c.in-Some.held c.in-Some.ensures.some.0,
+      ended_few (view_of c.self.inside) c.args.get.number c.self.invariant.0,
+    )
 
 pub returns-in-Some-clause-step : goal.returns-in-Some-clause-step
 returns-in-Some-clause-step g c =

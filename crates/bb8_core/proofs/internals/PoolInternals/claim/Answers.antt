@@ -1,4 +1,4 @@
-use Rattle.bb8_core.proofs.Words.{◌≡◌, ◌≢◌, ℕ, max, Option, Some, None, IfSome, IfNone, option_map, slice_get, view_of, StateView, RecordsView, Key}
+use Rattle.bb8_core.proofs.Words.{◌≡◌, ◌≢◌, ℕ, max, Option, Some, None, IfSome, IfNone, option_map, slice_get, view_of, StateView, RecordsView, Key, arith, nat_tests}
 use Rattle.bb8_ledger.specs.Acts as acts
 use Rattle.bb8_ledger.specs.Answers as answers
 use Rattle.bb8_tables.specs.Machine as machine
@@ -10,12 +10,10 @@ meets_claimed : {C : Type 0} (s : StateView C) (at : ℕ) (o : Option Key) (now 
     → IfSome o (λ key. (slice_get s.records.unclaimed 0 ≡ Some key.number) × (rs ≡ machine.after_claim key.number s.records))
     → IfNone o ((slice_get s.records.unclaimed 0 ≡ None) × (rs ≡ s.records))
     → IsStep s at acts.Claim (answers.Claimed (option_map (λ (k : Key). k.number) o)) (record s { latest = now; records = rs })
-meets_claimed s at None now rs now_is alive_now some none = meets_claim_none now_is alive_now none.0 none.1
-meets_claimed s at (Some key) now rs now_is alive_now some none = meets_claim now_is alive_now some.0 some.1
+meets_claimed s at o now rs now_is alive_now some none = grind (arith, nat_tests, meets_claim_none, meets_claim)
 
 pub returns-then-self-eq0-clause-step : goal.returns-then-self-eq0-clause-step
-returns-then-self-eq0-clause-step g c = at_view c.self.view_is c.self.invariant.0
-    (meets_claim_ended c.max-self-inside.ensures c.if-self-eq0.true)
+returns-then-self-eq0-clause-step g c = at_view c.self.view_is c.self.invariant.0 (meets_claim_ended c.max-self-inside.ensures c.if-self-eq0.true)
 
 pub invariant_of-self : goal.invariant_of-self
 invariant_of-self g c = (led _ c.args.at.0 acts.Claim _ (returns-then-self-eq0-clause-step g c), c.self.invariant.1)

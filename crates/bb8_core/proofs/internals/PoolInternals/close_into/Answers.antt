@@ -2,7 +2,7 @@ use Rattle.bb8_core.proofs.Words.{refl, arith}
 use Rattle.bb8_ledger.specs.Acts as acts
 use Rattle.bb8_core.proofs.Closings.{shut_offers}
 use Rattle.bb8_core.proofs.Steps.{meets_shut, led, at_view, fits_view}
-use Rattle.bb8_core.proofs.StepBounds.{bounded, reads_none, searched_none}
+use Rattle.bb8_core.proofs.StepBounds.{bounded}
 use Rattle.bb8_core.proofs.ClosesBelow.{all_below}
 use Rattle.bb8_core.proofs.internals.PoolInternals.close_into.Goals as goal
 
@@ -17,4 +17,4 @@ pub returns-clause-closed : goal.returns-clause-closed
 returns-clause-closed g c = shut_offers c.args.closed.now c.self.view_is c.self.invariant.0 c.leave.ensures.listed
 
 pub returns-clause-bounds : goal.returns-clause-bounds
-returns-clause-bounds g c = bounded _ c.args.at.0 acts.Close _ (returns-clause-step g c) c.self.view_is c.end.ensures (omega (arith, reads_none c.none.ensures)) (omega (arith, searched_none c.none.ensures))
+returns-clause-bounds g c = bounded _ c.args.at.0 acts.Close _ (returns-clause-step g c) c.self.view_is c.end.ensures (omega (arith)) (omega (arith))

@@ -1,10 +1,10 @@
-use Rattle.bb8_core.proofs.Words.{refl, sym, ◌∙◌, arith, is_guarded, view_of}
+use Rattle.bb8_core.proofs.Words.{refl, sym, ◌∙◌, arith, is_guarded, view_of, nat_tests}
 use Rattle.bb8_ledger.specs.Acts as acts
 use Rattle.bb8_core.proofs.Fitting.{as_shown, shown_fits, fits_at, unfit_at, guarded_record, closed_few}
 use Rattle.bb8_core.proofs.Runs.{unfit_step}
 use Rattle.bb8_core.proofs.Steps.{meets_detached, led, at_view}
 use Rattle.std.proofs.Math.Nat.{min-le_left}
-use Rattle.bb8_core.proofs.StepBounds.{bounded, one_few, reads_none, searched_none}
+use Rattle.bb8_core.proofs.StepBounds.{bounded, one_few}
 use Rattle.bb8_core.proofs.internals.PoolInternals.detach.Goals as goal
 
 pub returns-then-not-is_guarded-clause-step : goal.returns-then-not-is_guarded-clause-step
@@ -15,9 +15,7 @@ pub close_and_grant-grant-requires-clause-size : goal.close_and_grant-grant-requ
 close_and_grant-grant-requires-clause-size g c = (shown_fits (view_of c.self.inside) c.self.invariant.0).size
 
 pub detach-requires : goal.detach-requires
-detach-requires g c =
-    let on = sym c.is_guarded.ensures.value ∙ c.if-not-is_guarded.false in
-    omega (arith, closed_few c.args.k.number (view_of c.self.inside) c.self.invariant.0 (guarded_record (view_of c.self.inside) c.args.k.number on) c.close_and_grant-grant.ensures.numbers)
+detach-requires g c = grind (arith, nat_tests, closed_few c.args.k.number (view_of c.self.inside) c.self.invariant.0, guarded_record (view_of c.self.inside) c.args.k.number)
 
 pub returns-clause-step : goal.returns-clause-step
 returns-clause-step g c = (
@@ -33,7 +31,7 @@ pub invariant_of-self-2 : goal.invariant_of-self-2
 invariant_of-self-2 g c = (led _ c.args.at.0 (acts.Detach c.args.k.number) _ (returns-clause-step g c).0, c.self.invariant.1)
 
 pub returns-clause-bounds : goal.returns-clause-bounds
-returns-clause-bounds g c = bounded _ c.args.at.0 (acts.Detach c.args.k.number) _ (returns-clause-step g c).0 c.self.view_is c.end.ensures (omega (arith, one_few, min-le_left, reads_none c.none-accesses.ensures)) (omega (arith, one_few, min-le_left, searched_none c.none-accesses.ensures))
+returns-clause-bounds g c = bounded _ c.args.at.0 (acts.Detach c.args.k.number) _ (returns-clause-step g c).0 c.self.view_is c.end.ensures (omega (arith, one_few, min-le_left)) (omega (arith, one_few, min-le_left))
 
 pub invariant_of-self : goal.invariant_of-self
 invariant_of-self g c = (led _ c.args.at.0 (acts.Detach c.args.k.number) _ (returns-then-not-is_guarded-clause-step g c).0, c.self.invariant.1)

@@ -1,10 +1,10 @@
-use Rattle.bb8_core.proofs.Words.{refl, sym, ap, ◌∙◌, ◌+◌, ◌≤◌, arith, stands, is_idle, Idle, RecordsView, view_of}
+use Rattle.bb8_core.proofs.Words.{refl, sym, ap, ◌∙◌, ◌+◌, ◌≤◌, arith, stands, is_idle, Idle, RecordsView, view_of, nat_tests}
 use Rattle.bb8_ledger.specs.Acts as acts
 use Rattle.bb8_core.proofs.Fitting.{as_shown, shown_record, fits_at, unfit_at, evicted_few, due_fits}
 use Rattle.bb8_core.proofs.Runs.{unfit_records}
 use Rattle.bb8_core.proofs.Steps.{meets_evicted, grants, led, at_view}
 use Rattle.std.proofs.Math.Nat.{min-le_left}
-use Rattle.bb8_core.proofs.StepBounds.{bounded, one_few, reads_none, searched_none}
+use Rattle.bb8_core.proofs.StepBounds.{bounded, one_few}
 use Rattle.bb8_core.proofs.internals.PoolInternals.evict.Goals as goal
 
 pub returns-in-None-clause-step : goal.returns-in-None-clause-step
@@ -18,9 +18,7 @@ grant-grant-requires g c =
     omega (arith, due_fits (view_of c.self.inside) {taken = c.evict.new.self} _ c.self.invariant.0 fewer refl refl c.want-wanted.ensures)
 
 pub detach-requires : goal.detach-requires
-detach-requires g c =
-    let was = c.in-Some.ensures.some.0 in
-    omega (arith, evicted_few c.args.k.number (view_of c.self.inside) c.self.invariant.0 (record { place = Idle c.in-Some.conn; birth = was.0; entered = was.1 }, was.2, refl) c.in-Some.ensures.numbers)
+detach-requires g c = grind (arith, nat_tests, evicted_few c.args.k.number (view_of c.self.inside) c.self.invariant.0)
 
 pub returns-in-Some-clause-step : goal.returns-in-Some-clause-step
 returns-in-Some-clause-step g c = (
@@ -45,4 +43,4 @@ pub invariant_of-self-in-Some : goal.invariant_of-self-in-Some
 invariant_of-self-in-Some g c = (led _ c.args.at.0 (acts.Evict c.args.k.number) _ (returns-in-Some-clause-step g c).0, c.self.invariant.1)
 
 pub returns-in-Some-clause-bounds : goal.returns-in-Some-clause-bounds
-returns-in-Some-clause-bounds g c = bounded _ c.args.at.0 (acts.Evict c.args.k.number) _ (returns-in-Some-clause-step g c).0 c.self.view_is c.end.ensures (omega (arith, one_few, min-le_left, reads_none c.none-accesses.ensures)) (omega (arith, one_few, min-le_left, searched_none c.none-accesses.ensures))
+returns-in-Some-clause-bounds g c = bounded _ c.args.at.0 (acts.Evict c.args.k.number) _ (returns-in-Some-clause-step g c).0 c.self.view_is c.end.ensures (omega (arith, one_few, min-le_left)) (omega (arith, one_few, min-le_left))

@@ -1,11 +1,11 @@
-use Rattle.bb8_core.proofs.Words.{◌≡◌, ap, ◌-◌, ◌||◌, Bool, birth_in, true, false, Some, sym, refl, ◌∙◌, arith, view_of, get, holding_is, reason_of, eqb, ltb}
+use Rattle.bb8_core.proofs.Words.{◌≡◌, ap, ◌-◌, ◌||◌, Bool, birth_in, true, false, Some, sym, refl, ◌∙◌, arith, view_of, get, holding_is, reason_of, eqb, ltb, nat_tests}
 use Rattle.bb8_ledger.specs.Acts as acts
 use Rattle.bb8_core.proofs.Fitting.{number_few, shown_fits, fits_give_back, unfit_give_back, held_with, held_out, ended_few, closed_few, none_after}
 use Rattle.bb8_core.proofs.Runs.{unfit_gets}
 use Rattle.bb8_core.proofs.Steps.{regroup, led, at_view}
 use Rattle.bb8_core.proofs.GetEnds.{given_up_is, given_up_open, notices, meets_given_up_kept, meets_given_up_closed}
 use Rattle.std.proofs.Math.Nat.{min-le_left}
-use Rattle.bb8_core.proofs.StepBounds.{bounded, one_few, reads_none, searched_none}
+use Rattle.bb8_core.proofs.StepBounds.{bounded, one_few}
 use Rattle.bb8_core.proofs.internals.PoolInternals.give_back.Goals as goal
 
 pub returns-in_default-clause-step : goal.returns-in_default-clause-step
@@ -17,9 +17,12 @@ put_back-requires g c = none_after (view_of c.self.inside) c.args.at.0 c.max-now
 
 pub give_up-requires : goal.give_up-requires
 give_up-requires g c =
-    let st = holding_is (get c.self.inside.gets.places c.args.get.number) c.in-Some.held c.in-Some.ensures.some.0 in
-    let few = ended_few (view_of c.self.inside) c.args.get.number c.self.invariant.0 (st.0, st.1) c.finish_holding.ensures.numbers in
-    record { timed_out = omega (arith, few); cancelled = omega (arith, few) }
+    grind (
+      arith,
+      nat_tests,
+      holding_is (get c.self.inside.gets.places c.args.get.number) c.in-Some.held c.in-Some.ensures.some.0,
+      ended_few (view_of c.self.inside) c.args.get.number c.self.invariant.0,
+    )
 
 pub returns-in-Err-clause-step : goal.returns-in-Err-clause-step
 returns-in-Err-clause-step g c = absurd (let clash : true ≡ false = sym (held_with (view_of c.self.inside) c.args.get.number c.in-Some.held c.self.invariant.0 c.in-Some.ensures.some.0) ∙ c.in-Err.ensures.unfit.2 in cc)
@@ -58,13 +61,13 @@ close_and_grant-grant-requires-clause-size g c = let err = rw c.in-Ok-Err.field-
 
 pub close-requires : goal.close-requires
 close-requires g c =
-    let err = rw c.in-Ok-Err.field-0-is at c.in-Ok-Err.ensures.err in
-    omega (
+    grind (
       arith,
-      given_up_open c.args.reason c.max-now.result c.in-Some.first_wait c.self.inside.counters
-          (given_up_is c.args.reason c.max-now.result c.in-Some.first_wait c.give_up.ensures.timed_out c.give_up.ensures.cancelled),
-      closed_few c.in-Some.held (view_of c.self.inside) c.self.invariant.0
-          (held_out (view_of c.self.inside) c.args.get.number c.in-Some.held c.self.invariant.0 c.in-Some.ensures.some.0) (rw err.3 at c.close_and_grant-grant.ensures.numbers),
+      nat_tests,
+      given_up_open c.args.reason c.max-now.result c.in-Some.first_wait c.self.inside.counters,
+      given_up_is c.args.reason c.max-now.result c.in-Some.first_wait c.give_up.ensures.timed_out c.give_up.ensures.cancelled,
+      closed_few c.in-Some.held (view_of c.self.inside) c.self.invariant.0,
+      held_out (view_of c.self.inside) c.args.get.number c.in-Some.held c.self.invariant.0 c.in-Some.ensures.some.0,
     )
 
 pub returns-in-Ok-Err-clause-step : goal.returns-in-Ok-Err-clause-step
@@ -92,7 +95,7 @@ invariant_of-self-in-Ok-Err g c = (
 )
 
 pub returns-in-Ok-Ok-clause-bounds : goal.returns-in-Ok-Ok-clause-bounds
-returns-in-Ok-Ok-clause-bounds g c = bounded _ c.args.at.0 (acts.GiveUp c.args.get.number (reason_of c.args.reason) (Some c.args.conn) c.args.broken) _ (returns-in-Ok-Ok-clause-step g c).0 c.self.view_is c.end.ensures (omega (arith, one_few, min-le_left, reads_none c.none-accesses.ensures)) (omega (arith, one_few, min-le_left, searched_none c.none-accesses.ensures))
+returns-in-Ok-Ok-clause-bounds g c = bounded _ c.args.at.0 (acts.GiveUp c.args.get.number (reason_of c.args.reason) (Some c.args.conn) c.args.broken) _ (returns-in-Ok-Ok-clause-step g c).0 c.self.view_is c.end.ensures (omega (arith, one_few, min-le_left)) (omega (arith, one_few, min-le_left))
 
 pub returns-in-Ok-Err-clause-bounds : goal.returns-in-Ok-Err-clause-bounds
-returns-in-Ok-Err-clause-bounds g c = bounded _ c.args.at.0 (acts.GiveUp c.args.get.number (reason_of c.args.reason) (Some c.args.conn) c.args.broken) _ (returns-in-Ok-Err-clause-step g c).0 c.self.view_is c.end-in-Ok-Err.ensures (omega (arith, one_few, min-le_left, reads_none c.none-accesses.ensures)) (omega (arith, one_few, min-le_left, searched_none c.none-accesses.ensures))
+returns-in-Ok-Err-clause-bounds g c = bounded _ c.args.at.0 (acts.GiveUp c.args.get.number (reason_of c.args.reason) (Some c.args.conn) c.args.broken) _ (returns-in-Ok-Err-clause-step g c).0 c.self.view_is c.end-in-Ok-Err.ensures (omega (arith, one_few, min-le_left)) (omega (arith, one_few, min-le_left))

@@ -1,4 +1,4 @@
-use Rattle.bb8_core.proofs.Words.{None, sym, ap, ◌∙◌, refl, arith, gets_stand, is_trying, reason_of, view_of}
+use Rattle.bb8_core.proofs.Words.{None, sym, ap, ◌∙◌, refl, arith, gets_stand, is_trying, reason_of, view_of, nat_tests}
 use Rattle.bb8_ledger.specs.Acts as acts
 use Rattle.bb8_core.proofs.Fitting.{fits_give_up, unfit_give_up, ended_few}
 use Rattle.bb8_core.proofs.Runs.{unfit_gets}
@@ -11,9 +11,7 @@ returns-in_default-clause-step g c = unfit_gets c.args.at.0 (acts.GiveUp c.args.
     (unfit_give_up (view_of c.self.inside) c.args.get.number (reason_of c.args.reason) c.args.broken c.in_default.ensures.none.0) c.in_default.ensures.none.1
 
 pub give_up-requires : goal.give_up-requires
-give_up-requires g c =
-    let few = ended_few (view_of c.self.inside) c.args.get.number c.self.invariant.0 (c.in-Some.getting, c.in-Some.ensures.some.0) c.end.ensures.numbers in
-    record { timed_out = omega (arith, few); cancelled = omega (arith, few) }
+give_up-requires g c = grind (arith, nat_tests, ended_few (view_of c.self.inside) c.args.get.number c.self.invariant.0)
 
 pub returns-clause-step : goal.returns-clause-step
 returns-clause-step g c =

@@ -3,7 +3,7 @@ use Rattle.bb8_ledger.specs.Acts as acts
 use Rattle.bb8_core.proofs.Closings.{left_offers, none_left}
 use Rattle.bb8_core.proofs.Fitting.{fit_leave}
 use Rattle.bb8_core.proofs.Steps.{meets_left_last, meets_left, led, at_view, fits_view}
-use Rattle.bb8_core.proofs.StepBounds.{bounded, reads_none, searched_none}
+use Rattle.bb8_core.proofs.StepBounds.{bounded}
 use Rattle.bb8_core.proofs.ClosesBelow.{all_below, as_below}
 use Rattle.bb8_core.proofs.internals.PoolInternals.leave_into.Goals as goal
 
@@ -34,4 +34,4 @@ pub returns-clause-closed : goal.returns-clause-closed
 returns-clause-closed g c = none_left c.args.closed.now c.self.view_is c.if-self-eq1.false
 
 pub returns-then-self-eq1-clause-bounds : goal.returns-then-self-eq1-clause-bounds
-returns-then-self-eq1-clause-bounds g c = bounded _ c.args.at.0 acts.Leave _ (returns-then-self-eq1-clause-step g c) c.self.view_is c.end.ensures (omega (arith, reads_none c.none.ensures)) (omega (arith, searched_none c.none.ensures))
+returns-then-self-eq1-clause-bounds g c = bounded _ c.args.at.0 acts.Leave _ (returns-then-self-eq1-clause-step g c) c.self.view_is c.end.ensures (omega (arith)) (omega (arith))

@@ -1,10 +1,10 @@
-use Rattle.bb8_core.proofs.Words.{refl, ap, ◌∙◌, ◌-◌, ◌||◌, Bool, arith, get, birth_in, is_guarded, view_of, eqb, ltb}
+use Rattle.bb8_core.proofs.Words.{refl, ap, ◌∙◌, ◌-◌, ◌||◌, Bool, arith, get, birth_in, is_guarded, view_of, eqb, ltb, nat_tests}
 use Rattle.bb8_ledger.specs.Acts as acts
 use Rattle.bb8_core.proofs.Fitting.{number_few, shown_fits, fits_at, unfit_at, guarded_record, closed_few, none_after}
 use Rattle.bb8_core.proofs.Runs.{unfit_records}
 use Rattle.bb8_core.proofs.Steps.{meets_returned_kept, meets_returned_closed, regroup, led, at_view}
 use Rattle.std.proofs.Math.Nat.{min-le_left}
-use Rattle.bb8_core.proofs.StepBounds.{bounded, one_few, reads_none, searched_none}
+use Rattle.bb8_core.proofs.StepBounds.{bounded, one_few}
 use Rattle.bb8_core.proofs.internals.PoolInternals.put_back.Goals as goal
 
 pub put_back-requires : goal.put_back-requires
@@ -41,11 +41,7 @@ pub close_and_grant-grant-requires-clause-size : goal.close_and_grant-grant-requ
 close_and_grant-grant-requires-clause-size g c = let err = rw c.in-Ok-Err.field-0-is at c.in-Ok-Err.ensures.err in rw err.3 (shown_fits (view_of c.self.inside) c.self.invariant.0).size
 
 pub close-requires : goal.close-requires
-close-requires g c = let err = rw c.in-Ok-Err.field-0-is at c.in-Ok-Err.ensures.err in omega (
-  arith,
-  closed_few c.args.k.number (view_of c.self.inside) c.self.invariant.0
-      (guarded_record (view_of c.self.inside) c.args.k.number c.in-Ok-Err.ensures.held) (rw err.3 at c.close_and_grant-grant.ensures.numbers),
-)
+close-requires g c = grind (arith, nat_tests, closed_few c.args.k.number (view_of c.self.inside) c.self.invariant.0, guarded_record (view_of c.self.inside) c.args.k.number c.in-Ok-Err.ensures.held)
 
 pub returns-in-Ok-Err-clause-step : goal.returns-in-Ok-Err-clause-step
 returns-in-Ok-Err-clause-step g c =
@@ -69,7 +65,7 @@ invariant_of-self-in-Ok-Err g c = (
 )
 
 pub returns-in-Ok-Ok-clause-bounds : goal.returns-in-Ok-Ok-clause-bounds
-returns-in-Ok-Ok-clause-bounds g c = bounded _ c.args.at.0 (acts.PutBack c.args.k.number c.args.conn c.args.broken) _ (returns-in-Ok-Ok-clause-step g c).0 c.self.view_is c.end.ensures (omega (arith, one_few, min-le_left, reads_none c.none-accesses.ensures)) (omega (arith, one_few, min-le_left, searched_none c.none-accesses.ensures))
+returns-in-Ok-Ok-clause-bounds g c = bounded _ c.args.at.0 (acts.PutBack c.args.k.number c.args.conn c.args.broken) _ (returns-in-Ok-Ok-clause-step g c).0 c.self.view_is c.end.ensures (omega (arith, one_few, min-le_left)) (omega (arith, one_few, min-le_left))
 
 pub returns-in-Ok-Err-clause-bounds : goal.returns-in-Ok-Err-clause-bounds
-returns-in-Ok-Err-clause-bounds g c = bounded _ c.args.at.0 (acts.PutBack c.args.k.number c.args.conn c.args.broken) _ (returns-in-Ok-Err-clause-step g c).0 c.self.view_is c.end-in-Ok-Err.ensures (omega (arith, one_few, min-le_left, reads_none c.none-accesses.ensures)) (omega (arith, one_few, min-le_left, searched_none c.none-accesses.ensures))
+returns-in-Ok-Err-clause-bounds g c = bounded _ c.args.at.0 (acts.PutBack c.args.k.number c.args.conn c.args.broken) _ (returns-in-Ok-Err-clause-step g c).0 c.self.view_is c.end-in-Ok-Err.ensures (omega (arith, one_few, min-le_left)) (omega (arith, one_few, min-le_left))

@@ -6,7 +6,7 @@ use Rattle.bb8_core.proofs.Closings.{reap_offers, no_reap_offers}
 use Rattle.bb8_core.proofs.Reaps.{meets_reap_ended, meets_reaped, reaped_few}
 use Rattle.bb8_core.proofs.Steps.{grants, led, at_view}
 use Rattle.bb8_core.specs.StepBounds.{out_of}
-use Rattle.bb8_core.proofs.StepBounds.{bounded, reads_none, searched_none}
+use Rattle.bb8_core.proofs.StepBounds.{bounded}
 use Rattle.bb8_core.proofs.internals.PoolInternals.reap_into.Goals as goal
 
 pub returns-then-self-eq0-clause-step : goal.returns-then-self-eq0-clause-step
@@ -48,4 +48,4 @@ pub returns-clause-closed : goal.returns-clause-closed
 returns-clause-closed g c = reap_offers c.args.at.0 c.grant-grant.result c.args.closed.now c.self.view_is c.max-now.ensures c.reap-reaped.ensures.ends.2 c.reap-reaped.ensures.ends.3
 
 pub returns-clause-bounds : goal.returns-clause-bounds
-returns-clause-bounds g c = bounded _ c.args.at.0 acts.Reap _ (returns-clause-step g c) c.self.view_is c.end-2.ensures (omega (arith, reads_none c.none-accesses.ensures, ap (λ (s : StateView g.row.C.Denot). out_of s) c.self.view_is)) (omega (arith, searched_none c.none-accesses.ensures))
+returns-clause-bounds g c = bounded _ c.args.at.0 acts.Reap _ (returns-clause-step g c) c.self.view_is c.end-2.ensures (omega (arith, ap (λ (s : StateView g.row.C.Denot). out_of s) c.self.view_is)) (omega (arith))

@@ -6,7 +6,7 @@ use Rattle.bb8_core.proofs.Closings.{retire_offers, no_retire_offers}
 use Rattle.bb8_core.proofs.Reaps.{meets_retire_ended, meets_retired, retired_few}
 use Rattle.bb8_core.proofs.Steps.{grants, led, at_view}
 use Rattle.bb8_core.specs.StepBounds.{out_of}
-use Rattle.bb8_core.proofs.StepBounds.{bounded, reads_none, searched_none}
+use Rattle.bb8_core.proofs.StepBounds.{bounded}
 use Rattle.bb8_core.proofs.ClosesBelow.{still_below, retired_below}
 use Rattle.bb8_core.proofs.internals.PoolInternals.retire_into.Goals as goal
 
@@ -43,7 +43,7 @@ pub invariant_of-self-2 : goal.invariant_of-self-2
 invariant_of-self-2 g c = (led _ c.args.at.0 acts.Retire _ (returns-clause-step g c), record { age = c.self.invariant.1.age; closed = retired_below c.self.inside.handles _ c.if-self-eq0.false })
 
 pub returns-clause-bounds : goal.returns-clause-bounds
-returns-clause-bounds g c = bounded _ c.args.at.0 acts.Retire _ (returns-clause-step g c) c.self.view_is c.end-2.ensures (omega (arith, reads_none c.none-accesses.ensures, ap (λ (s : StateView g.row.C.Denot). out_of s) c.self.view_is)) (omega (arith, searched_none c.none-accesses.ensures))
+returns-clause-bounds g c = bounded _ c.args.at.0 acts.Retire _ (returns-clause-step g c) c.self.view_is c.end-2.ensures (omega (arith, ap (λ (s : StateView g.row.C.Denot). out_of s) c.self.view_is)) (omega (arith))
 
 pub returns-then-self-eq0-clause-closed : goal.returns-then-self-eq0-clause-closed
 returns-then-self-eq0-clause-closed g c = no_retire_offers c.args.at.0 c.args.closed.now

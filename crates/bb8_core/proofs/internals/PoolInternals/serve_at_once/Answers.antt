@@ -1,21 +1,17 @@
-use Rattle.bb8_core.proofs.Words.{ℕ, refl, sym, ap, ◌∙◌, get, arith, Idle, entered_in, is_checked, view_of, subst, StateView}
-use Rattle.bb8_core.specs.StepAnswers.{NotAtOnce}
+use Rattle.bb8_core.proofs.Words.{ℕ, refl, sym, ap, ◌∙◌, get, arith, Idle, entered_in, is_checked, view_of, nat_tests}
 use Rattle.bb8_ledger.specs.Acts as acts
 use Rattle.bb8_core.proofs.Fitting.{shown_record, shown_fits, due_fits, fit_idle, fit_leave}
-use Rattle.bb8_core.proofs.Steps.{grants, led, at_view}
+use Rattle.bb8_core.proofs.Steps.{grants, led, at_view, within}
 use Rattle.bb8_core.proofs.AtOnce.{between, ledger_between, first_checked, meets_begun_between, meets_served_between}
 use Rattle.std.proofs.Math.Nat.{min-le_left}
-use Rattle.bb8_core.proofs.StepBounds.{both_bounded, one_few, reads_none, searched_none}
+use Rattle.bb8_core.proofs.StepBounds.{both_bounded, one_few}
 use Rattle.bb8_core.proofs.internals.PoolInternals.serve_at_once.Goals as goal
 
 pub overflow_add-self : goal.overflow_add-self
 overflow_add-self g c = omega (arith, (shown_fits (view_of c.self.inside) c.self.invariant.0).started_few, c.has_capacity.ensures.number c.if-not-has_capacity.false)
 
 pub serve-requires : goal.serve-requires
-serve-requires g c =
-    let fit = shown_fits (view_of c.self.inside) c.self.invariant.0 in
-    let few = c.has_capacity.ensures.number c.if-not-has_capacity.false in
-    record { direct = omega (arith, fit, few); waited = omega (arith, fit, few) }
+serve-requires g c = grind (arith, nat_tests, shown_fits (view_of c.self.inside) c.self.invariant.0)
 
 pub grant-grant-requires : goal.grant-grant-requires
 grant-grant-requires g c = omega (
@@ -49,10 +45,19 @@ invariant_of-self-2 g c = (
 )
 
 pub returns-clause-bounds : goal.returns-clause-bounds
-returns-clause-bounds g c = let s = returns-clause-some g c in both_bounded _ c.args.at.0 _ _ _ s.1 s.2 c.self.view_is c.end-2.ensures (omega (arith, one_few, min-le_left, reads_none c.none-accesses.ensures)) (omega (arith, one_few, min-le_left, searched_none c.none-accesses.ensures))
+returns-clause-bounds g c = let s = returns-clause-some g c in both_bounded _ c.args.at.0 _ _ _ s.1 s.2 c.self.view_is c.end-2.ensures (omega (arith, one_few, min-le_left)) (omega (arith, one_few, min-le_left))
 
 pub returns-then-checks_first-clause-cause : goal.returns-then-checks_first-clause-cause
-returns-then-checks_first-clause-cause g c =
-    let a = view_of c.self.inside in
-    subst (λ (x : StateView g.row.C.Denot). NotAtOnce x c.args.at.0) c.self.view_is (first_checked a c.args.at.0 (λ k first.
-    ap (λ (n : ℕ). is_checked a.config n (entered_in (get a.records.places k))) (sym c.max-now.ensures) ∙ sym (c.checks_first.ensures.value k first) ∙ c.if-checks_first.true))
+returns-then-checks_first-clause-cause g c = grind (arith, nat_tests, first_checked (view_of c.self.inside) c.args.at.0)
+
+pub returns-clause-limits : goal.returns-clause-limits
+returns-clause-limits g c = within c.self.view_is c.self.invariant.0
+
+pub returns-in_default-clause-limits : goal.returns-in_default-clause-limits
+returns-in_default-clause-limits g c = within c.self.view_is c.self.invariant.0
+
+pub returns-then-checks_first-clause-limits : goal.returns-then-checks_first-clause-limits
+returns-then-checks_first-clause-limits g c = within c.self.view_is c.self.invariant.0
+
+pub returns-then-not-has_capacity-clause-limits : goal.returns-then-not-has_capacity-clause-limits
+returns-then-not-has_capacity-clause-limits g c = within c.self.view_is c.self.invariant.0

@@ -1,4 +1,4 @@
-use Rattle.bb8_core.proofs.Words.{◌≡◌, ℕ, ◌≤◌, sym, subst, ◌∙◌, arith, Figures, Counts, view_of, StateView}
+use Rattle.bb8_core.proofs.Words.{◌≡◌, ℕ, sym, ◌∙◌, arith, Figures, Counts, view_of, nat_tests}
 use Rattle.bb8_ledger.specs.Acts as acts
 use Rattle.bb8_core.proofs.Fitting.{as_shown, shown_fits}
 use Rattle.bb8_core.proofs.Steps.{meets_state, figures_told, led, at_view}
@@ -21,10 +21,7 @@ pub invariant_of-self : goal.invariant_of-self
 invariant_of-self g c = (led _ c.args.at.0 acts.State _ (returns-clause-step g c), c.self.invariant.1)
 
 pub returns-clause-size : goal.returns-clause-size
-returns-clause-size g c =
-    let fit = shown_fits (view_of c.self.inside) c.self.invariant.0 in
-    let few : c.connections.result ≤ (view_of c.self.inside).config.max_size = omega (arith, fit.size, c.connections.ensures) in
-    subst (λ (s : StateView _). c.connections.result ≤ s.config.max_size) c.self.view_is few
+returns-clause-size g c = grind (arith, nat_tests, shown_fits (view_of c.self.inside) c.self.invariant.0)
 
 pub returns-clause-idle : goal.returns-clause-idle
 returns-clause-idle g c = let few = idle_few (view_of c.self.inside) c.self.invariant.0 in omega (arith, few, c.connections.ensures, c.idle_connections.ensures)

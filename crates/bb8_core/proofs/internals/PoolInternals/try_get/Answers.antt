@@ -1,4 +1,4 @@
-use Rattle.bb8_core.proofs.Words.{ℕ, Bool, cond, sym, ap, refl, ◌∙◌, arith, subst, Idle, place_with, gets_stand, is_trying, view_of, IsNoGrant}
+use Rattle.bb8_core.proofs.Words.{ℕ, Bool, cond, sym, ap, refl, ◌∙◌, arith, subst, Idle, place_with, gets_stand, is_trying, view_of, IsNoGrant, nat_tests}
 use Rattle.bb8_types.specs.declared.standing.Holder.{Holder}
 use Rattle.bb8_types.specs.declared.standing.Holder.TheVariants.{Guard, Get}
 use Rattle.bb8_tables.specs.Machine as machine
@@ -7,7 +7,7 @@ use Rattle.bb8_core.proofs.Fitting.{as_shown, shown_record, due_fits, trying_sta
 use Rattle.bb8_core.proofs.Runs.{shown_try, unfit_step}
 use Rattle.bb8_core.proofs.Steps.{grants, tries, meets_served, meets_taken, meets_waits_on, meets_waits, due_waiting, led, at_view}
 use Rattle.std.proofs.Math.Nat.{min-le_left}
-use Rattle.bb8_core.proofs.StepBounds.{bounded, one_few, reads_none, searched_none}
+use Rattle.bb8_core.proofs.StepBounds.{bounded, one_few}
 use Rattle.bb8_core.proofs.internals.PoolInternals.try_get.Goals as goal
 
 pub returns-then-not-is_trying-clause-step : goal.returns-then-not-is_trying-clause-step
@@ -79,9 +79,7 @@ finish-requires g c = trying_off c.getting-getting.ensures.value c.is_trying.ens
 
 pub serve-requires : goal.serve-requires
 serve-requires g c =
-    let st = trying_stands c.getting-getting.ensures.value c.is_trying.ensures c.if-not-is_trying.false in
-    let few = ended_few (view_of c.self.inside) c.args.get.number c.self.invariant.0 st c.finish.ensures.numbers in
-    record { direct = omega (arith, few); waited = omega (arith, few) }
+    grind (arith, nat_tests, trying_stands c.getting-getting.ensures.value c.is_trying.ensures c.if-not-is_trying.false, ended_few (view_of c.self.inside) c.args.get.number c.self.invariant.0)
 
 pub returns-else-checked-clause-step : goal.returns-else-checked-clause-step
 returns-else-checked-clause-step g c = (
@@ -105,10 +103,10 @@ returns-else-checked-clause-connection g c = λ l legal means.
     (record { place = Idle c.in-Some.conn; birth = was.0; entered = was.1 }, shown_record l (view_of c.self.inside) (as_shown l (sym c.self.view_is) means) c.in-Some.key.number ∙ was.2, refl)
 
 pub returns-in-None-clause-bounds : goal.returns-in-None-clause-bounds
-returns-in-None-clause-bounds g c = bounded _ c.args.at.0 (acts.Try c.args.get.number) _ (returns-in-None-clause-step g c).0 c.self.view_is c.end-in-None.ensures (omega (arith, one_few, min-le_left, reads_none c.none-accesses.ensures)) (omega (arith, one_few, min-le_left, searched_none c.none-accesses.ensures))
+returns-in-None-clause-bounds g c = bounded _ c.args.at.0 (acts.Try c.args.get.number) _ (returns-in-None-clause-step g c).0 c.self.view_is c.end-in-None.ensures (omega (arith, one_few, min-le_left)) (omega (arith, one_few, min-le_left))
 
 pub returns-then-checked-clause-bounds : goal.returns-then-checked-clause-bounds
-returns-then-checked-clause-bounds g c = bounded _ c.args.at.0 (acts.Try c.args.get.number) _ (returns-then-checked-clause-step g c).0 c.self.view_is c.end-then-checked.ensures (omega (arith, one_few, min-le_left, reads_none c.none-accesses.ensures)) (omega (arith, one_few, min-le_left, searched_none c.none-accesses.ensures))
+returns-then-checked-clause-bounds g c = bounded _ c.args.at.0 (acts.Try c.args.get.number) _ (returns-then-checked-clause-step g c).0 c.self.view_is c.end-then-checked.ensures (omega (arith, one_few, min-le_left)) (omega (arith, one_few, min-le_left))
 
 pub returns-else-checked-clause-bounds : goal.returns-else-checked-clause-bounds
-returns-else-checked-clause-bounds g c = bounded _ c.args.at.0 (acts.Try c.args.get.number) _ (returns-else-checked-clause-step g c).0 c.self.view_is c.end-in-Some.ensures (omega (arith, one_few, min-le_left, reads_none c.none-accesses.ensures)) (omega (arith, one_few, min-le_left, searched_none c.none-accesses.ensures))
+returns-else-checked-clause-bounds g c = bounded _ c.args.at.0 (acts.Try c.args.get.number) _ (returns-else-checked-clause-step g c).0 c.self.view_is c.end-in-Some.ensures (omega (arith, one_few, min-le_left)) (omega (arith, one_few, min-le_left))

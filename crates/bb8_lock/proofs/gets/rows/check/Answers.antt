@@ -9,6 +9,7 @@ returns-in-Ok g c = (
   c.poll_valid.new.checking,
   c.poll_valid.new.self,
   rw c.in-Ready-Ok.field-0-is at c.in-Ready-Ok.ensures,
+  tt,
   (c.end_check.new.self, c.end_check.ensures, (Ok c.in-Ok.passed, c.checked_ok.new.self, c.in-Ok.ensures, (refl, refl))),
 )
 
@@ -19,5 +20,6 @@ returns-in-Err g c = (
   c.poll_valid.new.checking,
   c.poll_valid.new.self,
   rw c.in-Ready-Ok.field-0-is at c.in-Ready-Ok.ensures,
+  tt,
   (c.end_check.new.self, c.end_check.ensures, (_, c.checked_ok.new.self, c.in-Err.ensures, (c.drop_it.ensures, refl))),
 )

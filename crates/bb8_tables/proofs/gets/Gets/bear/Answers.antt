@@ -1,5 +1,5 @@
-use Rattle.std.proofs.Common.{ap, ◌∙◌}
-use Rattle.bb8_tables.specs.Machine as machine
+use Rattle.std.proofs.lemmas.Bool.Decides.{nat_tests}
+use Rattle.std.proofs.Common.{arith}
 use Rattle.bb8_tables.proofs.GetPlaces.{born_good, born_view}
 use Rattle.bb8_tables.proofs.gets.Gets.bear.Goals as goal
 
@@ -9,7 +9,4 @@ invariant_of-self c =
     born_good c.self.inside i.result _ i.new.self c.self.invariant i.ensures.vacant i.ensures.within i.ensures.state i.ensures.room (rw (← c.self.view_is) at c.requires.room)
 
 pub returns-clause-state : goal.returns-clause-state
-returns-clause-state c =
-    let i = c.insert-place in
-    born_view c.self.inside i.result _ i.new.self c.self.invariant i.ensures.vacant i.ensures.within i.ensures.state i.ensures.room (rw (← c.self.view_is) at c.requires.room)
-    ∙ ap machine.after_begin c.self.view_is
+returns-clause-state c = grind (arith, nat_tests, born_view c.self.inside c.insert-place.result)

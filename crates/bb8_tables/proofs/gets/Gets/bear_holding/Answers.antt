@@ -1,4 +1,5 @@
-use Rattle.bb8_tables.proofs.Words.{ap, ◌∙◌, GetsView, view_of_gets}
+use Rattle.std.proofs.lemmas.Bool.Decides.{nat_tests}
+use Rattle.bb8_tables.proofs.Words.{view_of_gets, arith}
 use Rattle.bb8_types.specs.declared.standing.GetPlace.TheVariants.{Holding}
 use Rattle.bb8_tables.specs.Machine as machine
 use Rattle.bb8_tables.proofs.GetPlaces.{born_good, born_view, begun_then}
@@ -11,7 +12,4 @@ invariant_of-self c =
 
 pub returns-clause-state : goal.returns-clause-state
 returns-clause-state c =
-    let i = c.insert-place in
-    born_view c.self.inside i.result _ i.new.self c.self.invariant i.ensures.vacant i.ensures.within i.ensures.state i.ensures.room (rw (← c.self.view_is) at c.requires.room)
-    ∙ begun_then (machine.getting_at (Holding c.args.held)) (view_of_gets c.self.inside).waiting (view_of_gets c.self.inside)
-    ∙ ap (λ (s : GetsView). machine.after_turn (Holding c.args.held) s.next (machine.after_begin s)) c.self.view_is
+    grind (arith, nat_tests, born_view c.self.inside c.insert-place.result, begun_then (machine.getting_at (Holding c.args.held)) (view_of_gets c.self.inside).waiting (view_of_gets c.self.inside))

@@ -1,17 +1,14 @@
-use Rattle.bb8_tables.proofs.Words.{ap, ◌∙◌, refl, [], ◌∷◌, ◌++◌, GetsView, view_of_gets}
+use Rattle.std.proofs.lemmas.Bool.Decides.{nat_tests}
+use Rattle.bb8_tables.proofs.Words.{ap, ◌∙◌, refl, [], ◌∷◌, ◌++◌, GetsView, view_of_gets, arith}
 use Rattle.bb8_tables.specs.Machine as machine
 use Rattle.bb8_tables.proofs.GetPlaces.{born_stands, born_absent, queued_good, queued_view, begun_then}
 use Rattle.bb8_tables.proofs.gets.Gets.bear_waiting.Goals as goal
 
 pub line_up-requires-clause-stands : goal.line_up-requires-clause-stands
-line_up-requires-clause-stands c =
-    let i = c.insert-place in
-    born_stands c.self.inside i.result _ i.new.self c.self.invariant i.ensures.vacant i.ensures.within i.ensures.state i.ensures.room
+line_up-requires-clause-stands c = grind (arith, nat_tests, born_stands c.self.inside c.insert-place.result)
 
 pub line_up-requires-clause-absent : goal.line_up-requires-clause-absent
-line_up-requires-clause-absent c =
-    let i = c.insert-place in
-    born_absent c.self.inside i.result _ i.new.self c.self.invariant i.ensures.vacant i.ensures.within i.ensures.state i.ensures.room
+line_up-requires-clause-absent c = grind (arith, nat_tests, born_absent c.self.inside c.insert-place.result)
 
 pub invariant_of-self : goal.invariant_of-self
 invariant_of-self c =

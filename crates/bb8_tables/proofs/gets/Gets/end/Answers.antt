@@ -1,7 +1,7 @@
-use Rattle.bb8_tables.proofs.Words.{◌∙◌, ap, sym, refl}
+use Rattle.std.proofs.lemmas.Bool.Decides.{nat_tests}
+use Rattle.bb8_tables.proofs.Words.{ap, refl, arith}
 use Rattle.bb8_types.specs.Places.{gets_stand, is_trying}
-use Rattle.bb8_tables.specs.Machine as machine
-use Rattle.bb8_tables.proofs.GetPlaces.{none_shown, some_shown, named, end_counted, end_good, end_view}
+use Rattle.bb8_tables.proofs.GetPlaces.{none_shown, some_shown, end_counted, end_good, end_view}
 use Rattle.bb8_tables.proofs.gets.Gets.end.Goals as goal
 
 pub overflow_sub-self : goal.overflow_sub-self
@@ -14,18 +14,7 @@ pub returns-in-None-clause-none : goal.returns-in-None-clause-none
 returns-in-None-clause-none c = (ap (gets_stand is_trying) (none_shown c.self.inside c.args.g.number c.args.self.now c.self.view_is c.in-None.ensures.none), refl)
 
 pub returns-then-not-is_trying-clause-none : goal.returns-then-not-is_trying-clause-none
-returns-then-not-is_trying-clause-none c =
-    let f = c.in-Some.ensures.some in
-    let shown = some_shown c.self.inside c.args.g.number c.in-Some.place c.at.result.now c.args.self.now c.self.invariant c.self.view_is c.at.ensures.value
-    (named f.0 c.at.result.now f.1 f.2 c.at.ensures.value) in
-    (ap (gets_stand is_trying) shown ∙ sym c.is_trying.ensures ∙ c.if-not-is_trying.true, refl)
+returns-then-not-is_trying-clause-none c = grind (arith, nat_tests, some_shown)
 
 pub returns-else-not-is_trying-clause-some : goal.returns-else-not-is_trying-clause-some
-returns-else-not-is_trying-clause-some c =
-    let f = c.in-Some.ensures.some in (
-      some_shown c.self.inside c.args.g.number c.in-Some.place c.at.result.now c.args.self.now c.self.invariant c.self.view_is c.at.ensures.value
-          (named f.0 c.at.result.now f.1 f.2 c.at.ensures.value),
-      sym c.is_trying.ensures ∙ c.if-not-is_trying.false,
-      end_view c.self.inside c.in-Some.place c.args.g.number f.0 c.remove.new.self c.self.invariant f.1 f.2 c.remove.ensures.state
-          ∙ ap (machine.after_get_end c.args.g.number) c.self.view_is,
-    )
+returns-else-not-is_trying-clause-some c = grind (arith, nat_tests, some_shown, end_view)

@@ -1,5 +1,5 @@
-use Rattle.bb8_tables.proofs.Words.{◌∙◌, ap}
-use Rattle.bb8_tables.specs.Machine as machine
+use Rattle.std.proofs.lemmas.Bool.Decides.{nat_tests}
+use Rattle.bb8_tables.proofs.Words.{arith}
 use Rattle.bb8_tables.proofs.GetPlaces.{never_absent, end_counted, end_good, end_view}
 use Rattle.bb8_tables.proofs.gets.Gets.finish.Goals as goal
 
@@ -13,7 +13,4 @@ pub returns-in-None-clause-state : goal.returns-in-None-clause-state
 returns-in-None-clause-state c = never_absent c.self.inside c.args.g.number c.args.self.now c.self.view_is c.requires.1 c.in-None.ensures.none
 
 pub returns-in-Some-clause-state : goal.returns-in-Some-clause-state
-returns-in-Some-clause-state c =
-    let f = c.in-Some.ensures.some in
-    end_view c.self.inside c.in-Some.place c.args.g.number f.0 c.remove.new.self c.self.invariant f.1 f.2 c.remove.ensures.state
-    ∙ ap (machine.after_get_end c.args.g.number) c.self.view_is
+returns-in-Some-clause-state c = grind (arith, nat_tests, end_view)

@@ -1,7 +1,7 @@
-use Rattle.bb8_tables.proofs.Words.{ap, ◌∙◌, sym, refl, Getting, Option, ⊎_elim}
-use Rattle.bb8_types.specs.Places.{holds, held_in, first_wait_of, is_unnotified}
-use Rattle.bb8_tables.specs.Machine as machine
-use Rattle.bb8_tables.proofs.GetPlaces.{none_shown, some_shown, named, end_counted, end_good, end_view, released, wait_absent}
+use Rattle.std.proofs.lemmas.Bool.Decides.{nat_tests}
+use Rattle.bb8_tables.proofs.Words.{ap, refl, Getting, Option, arith}
+use Rattle.bb8_types.specs.Places.{holds, is_unnotified}
+use Rattle.bb8_tables.proofs.GetPlaces.{none_shown, some_shown, end_counted, end_good, end_view, released, wait_absent}
 use Rattle.bb8_tables.proofs.gets.Gets.finish_holding.Goals as goal
 
 pub overflow_sub-self : goal.overflow_sub-self
@@ -14,22 +14,10 @@ pub returns-in-None-clause-none : goal.returns-in-None-clause-none
 returns-in-None-clause-none c = (ap (λ (o : Option Getting). holds o) (none_shown c.self.inside c.args.g.number c.args.self.now c.self.view_is c.in-None.ensures.none), refl)
 
 pub returns-in-Active-clause-none : goal.returns-in-Active-clause-none
-returns-in-Active-clause-none c =
-    let f = c.in-Some.ensures.some in
-    let shown = some_shown c.self.inside c.args.g.number c.in-Some.place c.at.result.now c.args.self.now c.self.invariant c.self.view_is c.at.ensures.value
-    (named f.0 c.at.result.now f.1 f.2 c.at.ensures.value) in
-    (ap (λ (o : Option Getting). holds o) shown ∙ ⊎_elim (λ e. ap held_in e) (λ e. ap held_in e.1) c.in-Active.is, refl)
+returns-in-Active-clause-none c = grind (arith, nat_tests, some_shown)
 
 pub returns-in-Holding-clause-some : goal.returns-in-Holding-clause-some
-returns-in-Holding-clause-some c =
-    let f = c.in-Some.ensures.some in
-    let shown = some_shown c.self.inside c.args.g.number c.in-Some.place c.at.result.now c.args.self.now c.self.invariant c.self.view_is c.at.ensures.value
-    (named f.0 c.at.result.now f.1 f.2 c.at.ensures.value) in (
-      ap (λ (o : Option Getting). holds o) shown ∙ ap held_in c.in-Holding.is,
-      sym (ap (λ (o : Option Getting). first_wait_of o) shown),
-      end_view c.self.inside c.in-Some.place c.args.g.number f.0 c.release.new.self c.self.invariant f.1 f.2 (released c.self.inside c.in-Some.place c.in-Holding.held c.at.result.now c.release.new.self c.self.invariant c.at.ensures.value c.in-Holding.is c.release.ensures.state)
-          ∙ ap (machine.after_get_end c.args.g.number) c.self.view_is,
-    )
+returns-in-Holding-clause-some c = grind (arith, nat_tests, some_shown, end_view, released)
 
 pub release-requires-clause-absent : goal.release-requires-clause-absent
 release-requires-clause-absent c = wait_absent c.self.inside c.in-Some.place c.at.result.now c.self.invariant c.at.ensures.value (ap is_unnotified c.in-Holding.is)

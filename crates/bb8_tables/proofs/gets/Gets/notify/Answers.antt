@@ -1,5 +1,5 @@
-use Rattle.bb8_tables.proofs.Words.{Some, slice_get, ap, ◌∙◌, GetsView}
-use Rattle.bb8_tables.specs.Machine as machine
+use Rattle.std.proofs.lemmas.Bool.Decides.{nat_tests}
+use Rattle.bb8_tables.proofs.Words.{slice_get, ap, ◌∙◌, GetsView, arith}
 use Rattle.bb8_tables.proofs.GetPlaces.{turned_stands, turned_first, notice_good, notice_view, first_number, none_first}
 use Rattle.bb8_tables.proofs.gets.Gets.notify.Goals as goal
 
@@ -23,7 +23,4 @@ returns-in-Some-clause-value c =
     ∙ ap (λ (s : GetsView). slice_get s.waiting 0) c.self.view_is
 
 pub returns-in-Some-clause-state : goal.returns-in-Some-clause-state
-returns-in-Some-clause-state c =
-    notice_view c.self.inside c.in-Some.place c.turn-number.result c.turn-number.new.self c.leave.new.self c.self.invariant c.in-Some.ensures c.turn-number.ensures.number
-    c.turn-number.ensures.changed c.leave.ensures
-    ∙ ap (machine.after_notice (Some c.turn-number.result)) c.self.view_is
+returns-in-Some-clause-state c = grind (arith, nat_tests, notice_view)

@@ -1,5 +1,5 @@
-use Rattle.std.proofs.Common.{ap, ◌∙◌}
-use Rattle.bb8_tables.specs.Machine as machine
+use Rattle.std.proofs.lemmas.Bool.Decides.{nat_tests}
+use Rattle.std.proofs.Common.{arith}
 use Rattle.bb8_tables.proofs.TablePlaces.{stands_within}
 use Rattle.bb8_tables.proofs.RecordPlaces.{born_absent, unborn_absent, lined, born_good, born_view}
 use Rattle.bb8_tables.proofs.records.Records.bear.Goals as goal
@@ -24,8 +24,4 @@ invariant_of-self g c =
     (rw (← c.self.view_is) at c.requires.moments)
 
 pub returns-clause-state : goal.returns-clause-state
-returns-clause-state g c =
-    let i = c.insert-place in
-    born_view c.self.inside i.result c.args.now c.args.conn i.new.self c.add_birth.new.self c.self.invariant i.ensures.vacant i.ensures.within i.ensures.state i.ensures.room
-    (lined i.result i.new.self c.line_up.new.self c.add_birth.new.self c.line_up.ensures c.add_birth.ensures)
-    ∙ ap (machine.after_birth c.args.conn c.args.now) c.self.view_is
+returns-clause-state g c = grind (arith, nat_tests, born_view, lined)

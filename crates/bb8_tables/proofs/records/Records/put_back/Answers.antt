@@ -1,10 +1,9 @@
+use Rattle.std.proofs.lemmas.Bool.Decides.{nat_tests}
 use Rattle.std.proofs.Common.{◌≡◌, ◌-◌, ◌||◌, ltb, true, false, ap, sym, ◌∙◌, refl, arith, subst, IfSome, Option}
-use Rattle.bb8_types.proofs.Places.{guarded_out}
 use Rattle.bb8_types.specs.declared.standing.Holder.{Holder}
-use Rattle.bb8_types.specs.declared.standing.Holder.TheVariants.{Guard, Get}
 use Rattle.bb8_types.specs.declared.standing.Place.{Place}
 use Rattle.bb8_types.specs.declared.standing.Standing.{Standing}
-use Rattle.bb8_types.specs.declared.standing.Place.TheVariants.{Unclaimed, Claimed, Idle, Held, Guarded}
+use Rattle.bb8_types.specs.declared.standing.Place.TheVariants.{Idle}
 use Rattle.bb8_types.specs.Places.{is_out, stands, birth_in}
 use Rattle.bb8_tables.specs.declared.table.Slot.{Slot}
 use Rattle.bb8_tables.specs.Holders.{is_with}
@@ -15,45 +14,44 @@ use Rattle.bb8_tables.proofs.records.Records.put_back.Goals as goal
 
 -- a connection with a holder is checked out
 with_out : {C : Type 0} (h : Holder) (p : Place C) → is_with h p ≡ true → is_out p ≡ true
-with_out Guard p e = guarded_out p e
-with_out (Get g) Unclaimed e = cc
-with_out (Get g) Claimed e = cc
-with_out (Get g) (Idle c) e = cc
-with_out (Get g) (Held h) e = refl
-with_out (Get g) Guarded e = cc
+with_out h p e = grind (arith, nat_tests)
 
 pub returns-in-None-clause-unfit : goal.returns-in-None-clause-unfit
 returns-in-None-clause-unfit g c = (refl, refl, ap (stands (is_with c.args.holder)) (none_shown c.self.inside c.args.k.number c.args.self.now c.self.view_is c.in-None.ensures.none))
 
 pub returns-then-not-is_with-clause-unfit : goal.returns-then-not-is_with-clause-unfit
 returns-then-not-is_with-clause-unfit g c =
-    let f = c.in-Some.ensures.some in
-    let shown = some_shown c.self.inside c.args.k.number c.in-Some.place f.0 c.at.result.now c.args.self.now c.self.invariant c.self.view_is f.1 f.2 (sym c.at.ensures.value) in
-    (refl, refl, ap (stands (is_with c.args.holder)) shown ∙ sym c.is_with.ensures ∙ c.if-not-is_with.true)
+    grind (
+      arith,
+      nat_tests,
+      some_shown c.self.inside c.args.k.number c.in-Some.place c.in-Some.ensures.some.0 c.at.result.now _ c.self.invariant c.self.view_is c.in-Some.ensures.some.1 c.in-Some.ensures.some.2,
+    )
 
 pub overflow_sub-older : goal.overflow_sub-older
 overflow_sub-older g c = (moments c.self.inside c.args.now c.in-Some.place c.at.result.now c.self.invariant (rw (← c.self.view_is) at c.requires) c.at.ensures.value).0
 
 pub returns-then-is_closing-clause-held : goal.returns-then-is_closing-clause-held
 returns-then-is_closing-clause-held g c =
-    let f = c.in-Some.ensures.some in
-    let shown = some_shown c.self.inside c.args.k.number c.in-Some.place f.0 c.at.result.now c.args.self.now c.self.invariant c.self.view_is f.1 f.2 (sym c.at.ensures.value) in
-    ap (stands (is_with c.args.holder)) shown ∙ sym c.is_with.ensures ∙ c.if-not-is_with.false
+    grind (
+      arith,
+      nat_tests,
+      some_shown c.self.inside c.args.k.number c.in-Some.place c.in-Some.ensures.some.0 c.at.result.now _ c.self.invariant c.self.view_is c.in-Some.ensures.some.1 c.in-Some.ensures.some.2,
+    )
 
 pub returns-else-is_closing-clause-held : goal.returns-else-is_closing-clause-held
 returns-else-is_closing-clause-held g c =
-    let f = c.in-Some.ensures.some in
-    let shown = some_shown c.self.inside c.args.k.number c.in-Some.place f.0 c.at.result.now c.args.self.now c.self.invariant c.self.view_is f.1 f.2 (sym c.at.ensures.value) in
-    ap (stands (is_with c.args.holder)) shown ∙ sym c.is_with.ensures ∙ c.if-not-is_with.false
+    grind (
+      arith,
+      nat_tests,
+      some_shown c.self.inside c.args.k.number c.in-Some.place c.in-Some.ensures.some.0 c.at.result.now _ c.self.invariant c.self.view_is c.in-Some.ensures.some.1 c.in-Some.ensures.some.2,
+    )
 
 pub returns-then-is_closing-clause-err : goal.returns-then-is_closing-clause-err
 returns-then-is_closing-clause-err g c =
-    let f = c.in-Some.ensures.some in
-    let born = ap birth_in (some_shown c.self.inside c.args.k.number c.in-Some.place f.0 c.at.result.now c.args.self.now c.self.invariant c.self.view_is f.1 f.2 (sym c.at.ensures.value)) in (
-      refl,
-      ap (λ n. ltb c.args.max_age (c.args.now - n)) (sym born),
-      sym c.is_closing.ensures ∙ c.if-is_closing.true,
-      refl,
+    grind (
+      arith,
+      nat_tests,
+      some_shown c.self.inside c.args.k.number c.in-Some.place c.in-Some.ensures.some.0 c.at.result.now _ c.self.invariant c.self.view_is c.in-Some.ensures.some.1 c.in-Some.ensures.some.2,
     )
 
 pub line_up-requires-clause-stands : goal.line_up-requires-clause-stands

@@ -1,4 +1,5 @@
-use Rattle.std.proofs.Common.{arith, refl, ◌∙◌}
+use Rattle.std.proofs.lemmas.Bool.Decides.{nat_tests}
+use Rattle.std.proofs.Common.{arith, refl}
 use Rattle.bb8_tables.proofs.ReapWalks.{births_start, births_member, births_stands, births_out, births_aged, none_ahead, none_more, none_after, reads_at_most}
 use Rattle.bb8_tables.proofs.records.Records.reap_aged.Goals as goal
 use Rattle.bb8_tables.proofs.records.Records.reap_aged.Goals.{in-Out, in-Aged}
@@ -35,7 +36,4 @@ pub returns-in-Young-clause-none_left : goal.returns-in-Young-clause-none_left
 returns-in-Young-clause-none_left g c = none_after (rw c.in-Some.is at c.loop.invariant) c.in-Young.ensures.value
 
 pub returns-in-Young-clause-examined : goal.returns-in-Young-clause-examined
-returns-in-Young-clause-examined g c =
-    let m = reads_at_most c.loop.invariant in
-    let l = c.in-Young.ensures.examined in
-    (l.0 ∙ m.0, omega (arith, m.1, l.1), omega (arith, m.2, l.2))
+returns-in-Young-clause-examined g c = grind (arith, nat_tests, reads_at_most c.loop.invariant)

@@ -19,7 +19,7 @@ returns-in-Ok-Tried-default-Served g c =
           c.look.result,
           c.look.new.self,
           c.look.ensures,
-          (Answer (Ok served.taken), c.start.new.self, (_, c.start.new.self, started, (Some deadline, refl, (refl, refl))), (refl, refl, refl)),
+          (Answer (Ok served.taken), c.start.new.self, (_, Some deadline, c.start.new.self, started, refl, (refl, refl)), (refl, refl, refl)),
         ),
       ),
       c.go.ensures,

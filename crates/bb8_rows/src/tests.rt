@@ -2,8 +2,8 @@
 
 mod masses;
 
-use crate::run;
 use bb8::Runtime;
+use bb8_live_scripts::run;
 use std::process::Abort;
 
 /// A get with another result than the transcript says, a line that does not fit, and lines that are

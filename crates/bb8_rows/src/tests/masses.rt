@@ -1,10 +1,10 @@
 //! Random transcripts: each result, and the state after it, is what the core's replay returns for
 //! the same events.
 
-use crate::{LineAnswer, run};
 use bb8::{Config, Moment, Runtime, Turn};
 use bb8_core::internals::PoolInternals;
 use bb8_core::replay::{Act, Answer, Event, Known, Reason, apply};
+use bb8_live_scripts::{LineAnswer, run};
 use bb8_runner::fault::Fault;
 use bb8_runner::lines::script_of;
 use bb8_runner::text::output;
