@@ -1,8 +1,8 @@
 -- What the condition of a step says of what is shown.
 use Rattle.std.proofs.lemmas.Bool.Decides.{nat_tests}
-use Rattle.bb8_core.proofs.Words.{◌≡◌, ◌≢◌, Begin, ℕ, length, ◌≤◌, Bool, true, false, Option, Some, None, is_some, refl, sym, ap, ◌∙◌, subst, ◌+◌, ◌<◌, max, arith, ltb-true, get, Place, Standing, Getting, CheckedOk, GiveUp, Leave, Reason, Cancelled, Act, Answer, Ledger, agree, ◌&&◌, get_of, start, handles, records, gets, record_of, holds, stands, gets_stand, is_unnotified, is_claimed, is_guarded, is_held_by, is_out, is_conn, is_trying, fits, IsLegal, StateView, shown_beside, HasLedger, IsFitting, Represents, standing_is, claimed_is, guarded_out, and_right, all_held, alive_get, alive_is, conn_counted, conn_from, claimed_counted, Fits, all_fit, due_few, Numbered, end_of_numbers, due, Settings, no_accesses, RecordsView, NoneAfter, ltb, next}
+use Rattle.bb8_core.proofs.Words.{◌≡◌, ◌≢◌, Begin, ℕ, length, ◌≤◌, Bool, true, false, Option, Some, None, is_some, refl, sym, ap, ◌∙◌, subst, ◌+◌, ◌<◌, max, arith, ltb-true, get, Place, Standing, Getting, CheckedOk, GiveUp, Leave, Reason, Cancelled, Act, Answer, Ledger, agree, ◌&&◌, get_of, start, handles, records, gets, record_of, holds, stands, gets_stand, is_unnotified, is_claimed, is_guarded, is_held_by, is_out, is_conn, is_trying, fits, IsLegal, StateView, shown_beside, HasLedger, IsFitting, Represents, standing_is, claimed_is, guarded_out, and_right, all_held, alive_get, alive_is, conn_counted, conn_from, claimed_counted, Fits, all_fit, due_few, Numbered, end_of_numbers, due, Settings, no_accesses, RecordsView, NoneAfter, ltb}
 use Rattle.std.proofs.Common.{lt-ltb}
-use Rattle.bb8_core.specs.StateView.{IsAsBefore, Meets, ReportsFitting}
+use Rattle.bb8_core.specs.StateView.{IsAsBefore, IsWithinLimits, ReportsFitting, Steps}
 use Rattle.std.proofs.lemmas.Option.{slice_get_within}
 use Rattle.bb8_types.specs.Places.{first_of, first_place}
 use Rattle.bb8_ledger.specs.Ledger.{idle}
@@ -59,8 +59,8 @@ module _ {C : Type 0} where
   still_shown {s} {t} l same means = ap (λ (x : StateView C). record x { reads = t.reads }) means ∙ sym same
 
   -- and a step from there is one from the former state
-  pub meets_still : {s t : StateView C} (new : StateView C) (at : ℕ) (e : Act C) (a : Answer) → IsAsBefore s t → Meets t at e a new → Meets s at e a new
-  meets_still new at e a same meets l legal means = meets l legal (still_shown l same means)
+  pub step_still : {s t : StateView C} (new : StateView C) (at : ℕ) (e : Act C) (a : Answer) → IsAsBefore s t → IsWithinLimits s → Steps t at e a new → Steps s at e a new
+  step_still new at e a same limits (_, meets) = (limits, λ l legal means. meets l legal (still_shown l same means))
 
   pub shown_record : (l : Ledger C) (s : StateView C) → Represents l s → (k : ℕ) → record_of l k ≡ get s.records.places k
   shown_record l s is k = sym (numbered.get-numbered (λ (r : Numbered (Standing C)). r.standing) (records l) (start l).first k) ∙ ap (λ (t : StateView C). get t.records.places k) is

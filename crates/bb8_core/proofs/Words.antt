@@ -24,7 +24,7 @@ pub use Rattle.bb8_ledger.proofs.Standings.{tested, conns-change, approved-chang
 pub use Rattle.bb8_ledger.specs.Ledger.{waiting, wait_micros}
 pub use Rattle.bb8_core.specs.Pool.{view_of}
 pub use Rattle.bb8_core.specs.Run.{IsRun, opening, answer_of, AfterEach, act_of, act_with, fits_named}
-pub use Rattle.bb8_core.specs.StateView.{StateView, shown_records, HasLedger, IsFitting, Represents, shown_beside, IsWithinLimits, Meets, Steps, shown_gets, IsGetIn, IsNoGetIn, IsNoRecordIn, IsRecordIn}
+pub use Rattle.bb8_core.specs.StateView.{StateView, shown_records, HasLedger, IsFitting, Represents, shown_beside, IsWithinLimits, Steps, shown_gets, IsGetIn, IsNoGetIn, IsNoRecordIn, IsRecordIn}
 pub use Rattle.bb8_core.specs.StepAnswers.{reason_of}
 pub use Rattle.bb8_tables.specs.declared.keys.Key.{Key}
 pub use Rattle.bb8_core.specs.declared.replay.events.Event.{Event}

@@ -10,7 +10,7 @@ ghost use Rattle.bb8_tables.specs.Keys.{notified_of};
 ghost use Rattle.bb8_core.specs.Run.{act_with, fits_named, answer_of, opening, IsRun, Happens, Applies, AfterEach};
 ghost use Rattle.bb8_core.specs.declared.replay.events.Act.TheVariants as events;
 ghost use Rattle.bb8_types.specs.Settings.{settings_of, is_lawful};
-ghost use Rattle.bb8_core.specs.StateView.{Represents, Meets};
+ghost use Rattle.bb8_core.specs.StateView.{Represents, Steps};
 ghost use Rattle.bb8_core.specs.Unfit.{answered};
 ghost use Rattle.bb8_core.specs.StepAnswers.{answer_of_checked_ok, answer_of_checked_err, answer_of_give_up, answer_of_detach, answer_of_evict, answer_of_failed, answer_of_leave, answer_of_reap};
 
@@ -19,9 +19,9 @@ mod hints;
 
 use self::hints::Hints;
 use crate::answers::{
-    AddAnswer, BeginAnswer, CheckedErrAnswer, CheckedOkAnswer, ClaimAnswer, DetachAnswer,
-    EvictAnswer, FailedAnswer, GiveUpAnswer, JoinAnswer, LeaveAnswer, OpenedAnswer, PutBackAnswer,
-    ReapAnswer, TryAnswer, Unfit,
+    AddAnswer, BeginAnswer, CheckedErrAnswer, ClaimAnswer, DetachAnswer, EvictAnswer, FailedAnswer,
+    GiveUpAnswer, JoinAnswer, LeaveAnswer, OpenedAnswer, PutBackAnswer, ReapAnswer, TryAnswer,
+    Unfit,
 };
 use crate::internals::PoolInternals;
 use bb8_tables::keys::{GetKey, Key};
@@ -123,7 +123,7 @@ fn fits_act<C: Drop>(pool: &PoolInternals<C>, act: Act) -> bool
 }
 
 fn begin(pool: &mut PoolInternals<u64>, known: &mut Known, at: Moment) -> Answer
-    ensures { Meets pool.old at.0 acts.Begin (answer_of result) pool.new }
+    ensures { Steps pool.old at.0 acts.Begin (answer_of result) pool.new }
 {
     match pool.begin(at) {
         Ok(BeginAnswer::Begun(get)) => {
@@ -137,7 +137,7 @@ fn begin(pool: &mut PoolInternals<u64>, known: &mut Known, at: Moment) -> Answer
 }
 
 fn try_get(pool: &mut PoolInternals<u64>, known: &mut Known, at: Moment, get: GetKey) -> Answer
-    ensures { Meets pool.old at.0 (acts.Try get.number) (answer_of result) pool.new }
+    ensures { Steps pool.old at.0 (acts.Try get.number) (answer_of result) pool.new }
 {
     match pool.try_get(at, get) {
         Ok(TryAnswer::Served(key, _, grant)) => {
@@ -154,7 +154,7 @@ fn try_get(pool: &mut PoolInternals<u64>, known: &mut Known, at: Moment, get: Ge
 }
 
 fn checked_ok(pool: &mut PoolInternals<u64>, known: &Known, at: Moment, get: GetKey) -> Answer
-    ensures { Meets pool.old at.0 (acts.CheckedOk get.number) (answer_of result) pool.new }
+    ensures { Steps pool.old at.0 (acts.CheckedOk get.number) (answer_of result) pool.new }
 {
     let hint = known.hint(pool.held(get));
     let next = pool.next_number();
@@ -162,11 +162,11 @@ fn checked_ok(pool: &mut PoolInternals<u64>, known: &Known, at: Moment, get: Get
 }
 
 /// Returns the replay's result of a passed check. `next` is the next number.
-fn outcome_of_checked_ok(answer: Result<CheckedOkAnswer, Unfit>, next: u64) -> Answer
+fn outcome_of_checked_ok(answer: Result<Key, Unfit>, next: u64) -> Answer
     ensures { answer_of result ≡ answered (answer_of_checked_ok next) answer }
 {
     match answer {
-        Ok(CheckedOkAnswer::Served(key)) => Answer::Served(key.number, Grant::of_nothing(next)),
+        Ok(key) => Answer::Served(key.number, Grant::of_nothing(next)),
         Err(Unfit) => Answer::Unfit,
     }
 }
@@ -178,7 +178,7 @@ fn checked_err(
     get: GetKey,
     broken: bool,
 ) -> Answer
-    ensures { Meets pool.old at.0 (acts.CheckedErr get.number broken) (answer_of result) pool.new }
+    ensures { Steps pool.old at.0 (acts.CheckedErr get.number broken) (answer_of result) pool.new }
 {
     let held = pool.held(get);
     outcome_of_checked_err(pool.checked_err(at, get, held.unwrap_or(0), broken, known.hint(held)))
@@ -232,7 +232,7 @@ fn give_up(
 }
 
 fn put_back(pool: &mut PoolInternals<u64>, at: Moment, key: Key, broken: bool) -> Answer
-    ensures { Meets pool.old at.0 (acts.PutBack key.number key.number broken)
+    ensures { Steps pool.old at.0 (acts.PutBack key.number key.number broken)
         (answer_of result) pool.new }
 {
     match pool.put_back(at, key, key.number, broken) {
@@ -245,7 +245,7 @@ fn put_back(pool: &mut PoolInternals<u64>, at: Moment, key: Key, broken: bool) -
 }
 
 fn detach(pool: &mut PoolInternals<u64>, at: Moment, key: Key) -> Answer
-    ensures { Meets pool.old at.0 (acts.Detach key.number) (answer_of result) pool.new }
+    ensures { Steps pool.old at.0 (acts.Detach key.number) (answer_of result) pool.new }
 {
     outcome_of_detach(pool.detach(at, key), key.number)
 }
@@ -263,7 +263,7 @@ fn outcome_of_detach(answer: Result<DetachAnswer, Unfit>, number: u64) -> Answer
 }
 
 fn evict(pool: &mut PoolInternals<u64>, at: Moment, key: Key) -> Answer
-    ensures { Meets pool.old at.0 (acts.Evict key.number) (answer_of result) pool.new }
+    ensures { Steps pool.old at.0 (acts.Evict key.number) (answer_of result) pool.new }
 {
     outcome_of_evict(pool.evict(at, key), key.number)
 }
@@ -281,7 +281,7 @@ fn outcome_of_evict(answer: Result<EvictAnswer<u64>, Unfit>, number: u64) -> Ans
 }
 
 fn claim(pool: &mut PoolInternals<u64>, known: &mut Known, at: Moment) -> Answer
-    ensures { Meets pool.old at.0 acts.Claim (answer_of result) pool.new }
+    ensures { Steps pool.old at.0 acts.Claim (answer_of result) pool.new }
 {
     match pool.claim(at) {
         ClaimAnswer::Claimed(Some(key)) => {
@@ -294,7 +294,7 @@ fn claim(pool: &mut PoolInternals<u64>, known: &mut Known, at: Moment) -> Answer
 }
 
 fn opened(pool: &mut PoolInternals<u64>, at: Moment, key: Key) -> Answer
-    ensures { Meets pool.old at.0 (acts.Opened key.number key.number) (answer_of result) pool.new }
+    ensures { Steps pool.old at.0 (acts.Opened key.number key.number) (answer_of result) pool.new }
 {
     match pool.opened(at, key, key.number) {
         Ok(OpenedAnswer::Entered(notified)) => Answer::Entered(key.number, number_of(notified)),
@@ -304,7 +304,7 @@ fn opened(pool: &mut PoolInternals<u64>, at: Moment, key: Key) -> Answer
 }
 
 fn failed(pool: &mut PoolInternals<u64>, at: Moment, key: Key) -> Answer
-    ensures { Meets pool.old at.0 (acts.Failed key.number) (answer_of result) pool.new }
+    ensures { Steps pool.old at.0 (acts.Failed key.number) (answer_of result) pool.new }
 {
     outcome_of_failed(pool.failed(at, key))
 }
@@ -320,7 +320,7 @@ fn outcome_of_failed(answer: Result<FailedAnswer, Unfit>) -> Answer
 }
 
 fn add(pool: &mut PoolInternals<u64>, known: &mut Known, at: Moment, broken: bool) -> Answer
-    ensures { Meets pool.old at.0 (acts.Add pool.old.records.next broken)
+    ensures { Steps pool.old at.0 (acts.Add pool.old.records.next broken)
         (answer_of result) pool.new }
 {
     let number = pool.next_number();
@@ -337,13 +337,13 @@ fn add(pool: &mut PoolInternals<u64>, known: &mut Known, at: Moment, broken: boo
 }
 
 fn reap(pool: &mut PoolInternals<u64>, at: Moment) -> Answer
-    ensures { Meets pool.old at.0 acts.Reap (answer_of result) pool.new }
+    ensures { Steps pool.old at.0 acts.Reap (answer_of result) pool.new }
 {
     outcome_of_reap(pool.reap(at))
 }
 
 fn retire(pool: &mut PoolInternals<u64>, at: Moment) -> Answer
-    ensures { Meets pool.old at.0 acts.Retire (answer_of result) pool.new }
+    ensures { Steps pool.old at.0 acts.Retire (answer_of result) pool.new }
 {
     outcome_of_reap(pool.retire(at))
 }
@@ -369,7 +369,7 @@ fn outcome_of_reap(answer: ReapAnswer) -> Answer
 }
 
 fn join(pool: &mut PoolInternals<u64>, at: Moment) -> Answer
-    ensures { Meets pool.old at.0 acts.Join (answer_of result) pool.new }
+    ensures { Steps pool.old at.0 acts.Join (answer_of result) pool.new }
 {
     match pool.join(at) {
         Ok(JoinAnswer::Joined) => Answer::Joined,
@@ -379,13 +379,13 @@ fn join(pool: &mut PoolInternals<u64>, at: Moment) -> Answer
 }
 
 fn leave(pool: &mut PoolInternals<u64>, at: Moment) -> Answer
-    ensures { Meets pool.old at.0 acts.Leave (answer_of result) pool.new }
+    ensures { Steps pool.old at.0 acts.Leave (answer_of result) pool.new }
 {
     outcome_of_leave(pool.leave(at))
 }
 
 fn close(pool: &mut PoolInternals<u64>, at: Moment) -> Answer
-    ensures { Meets pool.old at.0 acts.Close (answer_of result) pool.new }
+    ensures { Steps pool.old at.0 acts.Close (answer_of result) pool.new }
 {
     outcome_of_leave(pool.close(at))
 }
@@ -401,7 +401,7 @@ fn outcome_of_leave(answer: Result<LeaveAnswer, Unfit>) -> Answer
 }
 
 fn look(pool: &mut PoolInternals<u64>, at: Moment) -> Answer
-    ensures { Meets pool.old at.0 acts.Look (answer_of result) pool.new }
+    ensures { Steps pool.old at.0 acts.Look (answer_of result) pool.new }
 {
     let seen = pool.look(at);
     Answer::Looked(seen.moment, seen.alive)

@@ -3,7 +3,6 @@ use Rattle.bb8_lock.proofs.Words.{◌≡◌, ℕ, ◌+◌, ◌^◌, ◌<◌, Boo
 use Rattle.std.specs.Prelude.{not, eqb, ltb}
 use Rattle.std.proofs.Common.{IfOk, Result, Ok, Err}
 use Rattle.std.proofs.lemmas.Bool.Decides.{nat_tests}
-use Rattle.bb8_ledger.specs.Ledger.{handles}
 use Rattle.bb8_core.specs.declared.answers.AddAnswer.{AddAnswer}
 use Rattle.bb8_core.specs.declared.answers.Started.TheVariants as starting
 use Rattle.bb8_core.specs.declared.answers.Unfit.{Unfit as Refused}
@@ -18,13 +17,13 @@ use Rattle.bb8_tables.specs.declared.keys.GetKey.{GetKey}
 use Rattle.bb8_types.specs.declared.api.configuration.Config.{Config}
 use Rattle.bb8_types.specs.declared.api.moments.Moment.{Moment}
 use Rattle.bb8_types.specs.declared.grants.Grant.{Grant}
-use Rattle.bb8_ledger.specs.Acts.{Act, Begin, Fill, Add, Leave}
+use Rattle.bb8_ledger.specs.Acts.{Begin, Fill, Add, Leave}
 use Rattle.bb8_ledger.specs.Answers.{Answer, Begun, Broken, Exhausted, Granted, Memory, Unfit}
 use Rattle.bb8_ledger.specs.Table.{Allowed, Row, add_broken}
 use Rattle.bb8_core.specs.StateView.{StateView, HasLedger, IsAsBefore, IsWithinLimits, Steps, ReportsFitting}
 use Rattle.bb8_core.specs.Unfit.{answered}
 use Rattle.bb8_core.specs.Run.{opening}
-use Rattle.bb8_core.proofs.Fitting.{meets_still}
+use Rattle.bb8_core.proofs.Fitting.{step_still}
 use Rattle.bb8_ledger.proofs.Effects.{by_fit}
 
 -- an answer that a connection was refused as broken
@@ -46,10 +45,6 @@ module _ {C : Type 0} where
   starts_in old new at g t is starts = subst (λ (q : TryAnswer C). Starts old at.0 (starting.Tried g q) new) (sym is) starts
 
   -- a start from a state as before, but for the count of accesses, is one from the former state
-  step_still : {old mid : StateView C} (new : StateView C) (at : ℕ) (e : Act C) (a : Answer) → IsAsBefore old mid → IsWithinLimits old
-      → Steps mid at e a new → Steps old at e a new
-  step_still new at e a same limits (_, meets) = (limits, meets_still new at e a same meets)
-
   pub starts_still : {P : Type 0} (old mid new : StateView C) (at : ℕ) (r : Result (FirstTry C P) Refused) → IsAsBefore old mid → IsWithinLimits old
       → StartsBy mid at r new → StartsBy old at r new
   starts_still old mid new at (Ok (first.Tried g t)) same limits (between, begins, tries, out) =

@@ -16,7 +16,6 @@ use Rattle.bb8_ledger.specs.Answers.{Answer}
 use Rattle.bb8_core.specs.declared.answers.AddAnswer.{AddAnswer}
 use Rattle.bb8_core.specs.declared.answers.AddAnswer.TheVariants as adding
 use Rattle.bb8_core.specs.declared.answers.CheckedErrAnswer.{CheckedErrAnswer}
-use Rattle.bb8_core.specs.declared.answers.CheckedOkAnswer.TheVariants as passes
 use Rattle.bb8_core.specs.declared.answers.DetachAnswer.{DetachAnswer}
 use Rattle.bb8_core.specs.declared.answers.GiveUpAnswer.{GiveUpAnswer}
 use Rattle.bb8_core.specs.declared.answers.LeaveAnswer.{LeaveAnswer}
@@ -85,7 +84,7 @@ module _ {C P H : Type 0} where
   StepsBy s at (Looks seen) s' = Steps s at.0 acts.Look (answer_of_look seen) s'
   StepsBy s at (Starts r) s' = StartsBy s at.0 r s'
   StepsBy s at (Tries get t) s' = Stepped Steps answer_of_tried s at.0 (acts.Try get.number) t s' × IfOk t (λ a. HandsOut s (in_core a))
-  StepsBy s at (Passes get key permit a) s' = Stepped Steps (λ p. answer_of_checked_ok s.records.next (passes.Served p.key)) s at.0 (acts.CheckedOk get.number) a s'
+  StepsBy s at (Passes get key permit a) s' = Stepped Steps (λ p. answer_of_checked_ok s.records.next p.key) s at.0 (acts.CheckedOk get.number) a s'
   StepsBy s at (Fails get r a) s' =
       Stepped Steps answer_of_checked_err s at.0 (acts.CheckedErr get.number r.broken) a s' × OrComesBack GivesBackInvalid r.taken.connection a
   StepsBy s at (GivesUp get why a) s' = Stepped Steps answer_of_give_up s at.0 (acts.GiveUp get.number (reason_of why) None false) a s'

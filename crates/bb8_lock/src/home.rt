@@ -146,7 +146,7 @@ impl<C: Drop, L: Permits> GetHome<C> for Locked<C, L> {
     ) -> Result<Passed<Permit<L>>, Unfit> {
         let Locked { core, .. } = self;
         match core.checked_ok(at, get, key.place) {
-            Ok(answer) => Ok(Passed::of(answer, permit)),
+            Ok(key) => Ok(Passed { key, permit }),
             Err(Unfit) => {
                 let Permit { share } = permit;
                 drop(share);

@@ -2,7 +2,7 @@
 
 pub(crate) use bb8_core::api::Moment;
 pub(crate) use bb8_core::internals::{
-    AddAnswer, AtOnce, CheckedErrAnswer, CheckedOkAnswer, ClaimAnswer, ClosedList, DetachAnswer,
+    AddAnswer, AtOnce, CheckedErrAnswer, ClaimAnswer, ClosedList, DetachAnswer,
     EvictAnswer, GetKey, GiveUpAnswer, Key, OpenedAnswer, PutBackAnswer, ReapAnswer, Reason,
     Started, TryAnswer,
 };

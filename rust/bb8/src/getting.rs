@@ -3,7 +3,7 @@
 use crate::api::{Pool, PooledConnection};
 use crate::builder::{Checks, Config};
 use crate::core::{
-    fit, CheckedOkAnswer, Checkout, Core, GetKey, Held, Moment, Reason, Started, TryAnswer,
+    fit, Checkout, Core, GetKey, Held, Moment, Reason, Started, TryAnswer,
 };
 use crate::errors::RunError;
 use crate::events::MAX_LIFETIME;
@@ -383,8 +383,7 @@ impl<'a, M: ManageConnection> Getting<'a, M> {
         let (at, get) = (Moment(at), ended.key);
         let passed = locked.core.checked_ok(at, get, checkout.key.place);
         drop(locked);
-        let CheckedOkAnswer::Served(key) = fit(passed);
-        checkout.key = key;
+        checkout.key = fit(passed);
         (checkout, ended.began)
     }
 

@@ -4,8 +4,8 @@ use super::{assert_equal, unchecked};
 use bb8_core::api::{Config, Moment};
 use bb8_core::handing::{HandedOver, detach, give_up, opened, put_back};
 use bb8_core::internals::{
-    AddAnswer, BeginAnswer, CheckedOkAnswer, ClaimAnswer, DetachAnswer, GetKey, GiveUpAnswer, Key,
-    OpenedAnswer, PoolInternals, PutBackAnswer, Reason, TryAnswer,
+    AddAnswer, BeginAnswer, ClaimAnswer, DetachAnswer, GetKey, GiveUpAnswer, Key, OpenedAnswer,
+    PoolInternals, PutBackAnswer, Reason, TryAnswer,
 };
 use std::process::Abort;
 
@@ -60,11 +60,11 @@ fn stale_keys_name_the_right_entry(rt: HostRuntime) {
     assert_equal(&rt, (red.number, conn), (0, Colour::Red));
     assert!(rt; pool.searched() > 0);
     let (green, conn) = taken(&rt, pool.try_get(NOW, second).ok(), true);
-    let Ok(CheckedOkAnswer::Served(key)) = pool.checked_ok(NOW, first, green.place) else {
+    let Ok(key) = pool.checked_ok(NOW, first, green.place) else {
         panic!(rt; "the get holds nothing");
     };
     assert_equal(&rt, (key.number, key.place), (0, red.place));
-    let Ok(CheckedOkAnswer::Served(key)) = pool.checked_ok(NOW, second, 1_000) else {
+    let Ok(key) = pool.checked_ok(NOW, second, 1_000) else {
         panic!(rt; "the get holds nothing");
     };
     assert_equal(&rt, (key.number, key.place), (1, green.place));

@@ -1,13 +1,12 @@
 //! The trait of everything on which the polls of a get make steps.
 ghost use Rattle.std.specs.Prelude.{◌≡◌};
 ghost use Rattle.bb8_types.specs.declared.api.moments.Moment.{Moment as MomentOf};
-ghost use Rattle.bb8_core.specs.declared.answers.CheckedOkAnswer.TheVariants.{Served as IsServed};
 ghost use Rattle.bb8_lock.specs.Steps.{GetStep, Looks, Starts, Tries, Passes, Fails, GivesUp, GivesBack, PutsBack, Adds, Shows, Joins, Leaves, Retires, Detaches, Closes};
 
 use bb8_core::api::{Moment, State};
 use bb8_core::internals::{
-    AddAnswer, CheckedErrAnswer, CheckedOkAnswer, ClosedList, DetachAnswer, GetKey, GiveUpAnswer,
-    Grant, Key, LeaveAnswer, Looked, PutBackAnswer, ReapAnswer, Reason, Unfit,
+    AddAnswer, CheckedErrAnswer, ClosedList, DetachAnswer, GetKey, GiveUpAnswer, Grant, Key,
+    LeaveAnswer, Looked, PutBackAnswer, ReapAnswer, Reason, Unfit,
 };
 
 /// A checked-out connection with its permit. It has no `Drop`: code must take it apart by name.
@@ -46,17 +45,6 @@ pub struct Passed<P> {
     pub key: Key,
     /// Its permit.
     pub permit: P,
-}
-
-impl<P> Passed<P> {
-    /// Returns a result of the core with the connection's permit.
-    pub fn of(answer: CheckedOkAnswer, permit: P) -> Self
-        ensures served { answer ≡ IsServed result.key }
-        ensures permit { result.permit ≡ permit }
-    {
-        let CheckedOkAnswer::Served(key) = answer;
-        Passed { key, permit }
-    }
 }
 
 /// A connection that a get or a guard held and that its home takes back.

@@ -41,13 +41,6 @@ pub enum Started<C> {
     Exhausted,
 }
 
-/// The result of `checked_ok`.
-#[derive(Clone, Copy, Debug)]
-pub enum CheckedOkAnswer {
-    /// The get ended with the connection of this key, which a guard holds from now on.
-    Served(Key),
-}
-
 /// The result of `checked_err`.
 pub enum CheckedErrAnswer<C> {
     /// The connection of this key is closed, for the caller to drop; the grant; the notified get.

@@ -7,9 +7,9 @@ mod questions;
 mod reaps;
 
 pub use crate::bb8_core::answers::{
-    AddAnswer, AtOnce, BeginAnswer, CheckedErrAnswer, CheckedOkAnswer, ClaimAnswer, DetachAnswer,
-    EvictAnswer, FailedAnswer, GiveUpAnswer, JoinAnswer, LeaveAnswer, Looked, OpenedAnswer,
-    PutBackAnswer, ReapAnswer, Started, TryAnswer, Unfit,
+    AddAnswer, AtOnce, BeginAnswer, CheckedErrAnswer, ClaimAnswer, DetachAnswer, EvictAnswer,
+    FailedAnswer, GiveUpAnswer, JoinAnswer, LeaveAnswer, Looked, OpenedAnswer, PutBackAnswer,
+    ReapAnswer, Started, TryAnswer, Unfit,
 };
 pub use crate::bb8_tables::closed::{Closed, ClosedList};
 use crate::bb8_tables::counters::Counters;
@@ -250,17 +250,13 @@ impl<C, A> PoolInternals<C, A> {
         }
     }
 
-    /// Serves a get with the connection that it holds, because its check passed. A guard holds the
-    /// connection from now on. `hint` is the index in its key; it may be stale, and changes no
-    /// result. If the get holds none, nothing changes. The get is looked up once.
+    /// Serves a get with the connection that it holds, because its check passed. Returns the key of
+    /// the connection, which a guard holds from now on. `hint` is the index in its key; it may be
+    /// stale, and changes no result. If the get holds none, nothing changes. The get is looked up
+    /// once.
     // Inlining saves 28 instructions of a pair.
     #[inline(always)]
-    pub fn checked_ok(
-        &mut self,
-        at: Moment,
-        get: GetKey,
-        hint: usize,
-    ) -> Result<CheckedOkAnswer, Unfit> {
+    pub fn checked_ok(&mut self, at: Moment, get: GetKey, hint: usize) -> Result<Key, Unfit> {
         let mut accesses = AccessCounter::NONE;
         match self.gets.finish_holding(get, &mut accesses) {
             None => {
@@ -277,7 +273,7 @@ impl<C, A> PoolInternals<C, A> {
                 let key = self.records.hand_over(out, &mut accesses);
                 self.accesses.end(accesses);
                 self.counters.serve(first_wait, now);
-                Ok(CheckedOkAnswer::Served(key))
+                Ok(key)
             }
         }
     }

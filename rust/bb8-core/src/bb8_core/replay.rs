@@ -5,9 +5,9 @@ mod hints;
 
 use self::hints::Hints;
 use crate::bb8_core::answers::{
-    AddAnswer, BeginAnswer, CheckedErrAnswer, CheckedOkAnswer, ClaimAnswer, DetachAnswer,
-    EvictAnswer, FailedAnswer, GiveUpAnswer, JoinAnswer, LeaveAnswer, OpenedAnswer, PutBackAnswer,
-    ReapAnswer, TryAnswer, Unfit,
+    AddAnswer, BeginAnswer, CheckedErrAnswer, ClaimAnswer, DetachAnswer, EvictAnswer, FailedAnswer,
+    GiveUpAnswer, JoinAnswer, LeaveAnswer, OpenedAnswer, PutBackAnswer, ReapAnswer, TryAnswer,
+    Unfit,
 };
 use crate::bb8_core::internals::PoolInternals;
 use crate::bb8_tables::keys::{GetKey, Key};
@@ -133,9 +133,9 @@ fn checked_ok(pool: &mut PoolInternals<u64>, known: &Known, at: Moment, get: Get
 }
 
 /// Returns the replay's result of a passed check. `next` is the next number.
-fn outcome_of_checked_ok(answer: Result<CheckedOkAnswer, Unfit>, next: u64) -> Answer {
+fn outcome_of_checked_ok(answer: Result<Key, Unfit>, next: u64) -> Answer {
     match answer {
-        Ok(CheckedOkAnswer::Served(key)) => Answer::Served(key.number, Grant::of_nothing(next)),
+        Ok(key) => Answer::Served(key.number, Grant::of_nothing(next)),
         Err(Unfit) => Answer::Unfit,
     }
 }

@@ -179,9 +179,8 @@ impl<C> Noted<C> {
         at: Moment,
         get: GetKey,
         hint: usize,
-    ) -> Result<CheckedOkAnswer, Unfit> {
-        let answer = self.core.checked_ok(at, get, hint)?;
-        let CheckedOkAnswer::Served(key) = answer;
+    ) -> Result<Key, Unfit> {
+        let key = self.core.checked_ok(at, get, hint)?;
         let grant = Grant {
             first: 0,
             count: 0,
@@ -189,7 +188,7 @@ impl<C> Noted<C> {
         };
         let served = Answer::Served(key.number, grant);
         self.note(at, Act::CheckedOk(get.number), served);
-        Ok(answer)
+        Ok(key)
     }
 
     pub(crate) fn checked_err(
