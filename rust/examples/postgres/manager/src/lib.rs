@@ -16,6 +16,22 @@ pub struct Log {
     /// The server processes of dropped connections. A process may live a little longer, until it
     /// has read that its connection was closed.
     pub closed: Mutex<HashSet<i32>>,
+    /// Connection attempts that were cut off. The server may have a process of each for a while.
+    pub cut_off: AtomicU64,
+}
+
+/// Counts a connection attempt as cut off, unless it has ended.
+struct Attempt<'a> {
+    log: &'a Log,
+    has_ended: bool,
+}
+
+impl Drop for Attempt<'_> {
+    fn drop(&mut self) {
+        self.log
+            .cut_off
+            .fetch_add(u64::from(!self.has_ended), SeqCst);
+    }
 }
 
 /// A connection to PostgreSQL. A task of its own moves its bytes, and ends with it.
@@ -45,14 +61,16 @@ pub async fn open(config: &Config) -> Result<Client, Error> {
     Ok(client)
 }
 
-/// Returns the number of the server's process, by a query that prepares no statement.
-async fn process_of(client: &Client) -> Result<i32, Error> {
+/// Opens a connection, and returns the number of the server's process, too, by a query that prepares
+/// no statement.
+async fn open_and_ask(config: &Config) -> Result<(Client, i32), Error> {
+    let client = open(config).await?;
     let messages = client.simple_query("SELECT pg_backend_pid()").await?;
     let process = messages.iter().find_map(|message| match message {
         SimpleQueryMessage::Row(row) => row.get(0)?.parse().ok(),
         _ => None,
     });
-    Ok(process.expect("the server returns a number"))
+    Ok((client, process.expect("the server returns a number")))
 }
 
 /// Opens connections to one database.
@@ -68,8 +86,13 @@ impl ManageConnection for Database {
     type Error = Error;
 
     async fn connect(&self) -> Result<Connection, Error> {
-        let client = open(&self.config).await?;
-        let process = process_of(&client).await?;
+        let mut attempt = Attempt {
+            log: &self.log,
+            has_ended: false,
+        };
+        let opened = open_and_ask(&self.config).await;
+        attempt.has_ended = true;
+        let (client, process) = opened?;
         // (PgBouncer gives the process of a closed connection to a later one)
         self.log.closed.lock().unwrap().remove(&process);
         self.log.opened.fetch_add(1, SeqCst);
