@@ -16,8 +16,8 @@ use std::sync::ledger::Blank;
 /// `Builder::with_pool`.
 ///
 /// As in a `Service`, its method calls the pool by `PoolCalls` and the driver by `DriverCalls`. Its
-/// ghost members relate its arguments and its result, with what the pool was built of. One that is
-/// left out allows everything.
+/// ghost members relate its arguments and its result, with what the pool was built from. One that
+/// is left out allows everything.
 pub trait User<
     M: ManageConnection,
     S: ErrorSink<M::Error>,

@@ -53,7 +53,7 @@ pub trait BlockingManager: Sized + Send + Sync + Drop + 'static {
 /// The `ManageConnection` that calls a `BlockingManager`. It is a wrapper because of *only-match*
 /// in docs/TOOLCHAIN.md. bb8 has no such wrapper.
 ///
-/// The begin of an attempt or a check calls nothing. Its first poll makes the one call, blocks its
+/// To begin an attempt or a check makes no call. Its first poll makes the one call, blocks its
 /// thread until that returns, and is ready.
 #[derive(Drop)]
 pub struct Blocking<B: BlockingManager>(
@@ -61,8 +61,7 @@ pub struct Blocking<B: BlockingManager>(
     pub B,
 );
 
-/// The begin of an attempt or a check changes nothing. A poll is ready with the result of the call
-/// inside.
+/// To begin an attempt or a check changes nothing. A poll is ready with the result of its call.
 impl<B: BlockingManager> ManageConnection for Blocking<B> {
     type Connection = B::Connection;
 

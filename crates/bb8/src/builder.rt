@@ -166,9 +166,9 @@ impl<M, S: Drop, Z: Drop> Builder<M, S, Z> {
     /// more than `min_idle` are idle. It closes the one that became idle first, with either queue
     /// strategy. 10 minutes by default. With None a connection may be idle forever.
     ///
-    /// As bb8's documentation; bb8's code closes all of them. A connection that has also reached
-    /// `max_lifetime` is closed for that, and counts as such. The condition refuses a limit of
-    /// zero, on which bb8 panics. With a limit, a `reaper_rate` of zero makes the settings
+    /// This follows bb8's documentation; its code closes all of them. A connection that has also
+    /// reached `max_lifetime` is closed for that, and counts as such. The condition refuses a limit
+    /// of zero, on which bb8 panics. With a limit, a `reaper_rate` of zero makes the settings
     /// unlawful.
     pub fn idle_timeout(mut self, idle_timeout: Option<Duration>) -> Self
         requires { ForSome idle_timeout (λ limit. 0 < as_nanos limit) }
@@ -231,7 +231,7 @@ impl<M, S: Drop, Z: Drop> Builder<M, S, Z> {
 
     /// Sets which idle connection is handed out first. `Fifo` by default. As bb8.
     ///
-    /// `Fifo` spreads the load over all connections, so that few become idle for long. `Lifo` uses
+    /// `Fifo` spreads the load over all connections, so that few stay idle for long. `Lifo` uses
     /// as few connections as it can, so that the others reach `idle_timeout` and are closed down to
     /// `min_idle`.
     pub fn queue_strategy(mut self, queue_strategy: QueueStrategy) -> Self

@@ -179,7 +179,7 @@ impl<
 trait EndsStage {
     type BuildingStage;
 
-    /// Gives the approvals of its tasks back, and drops everything.
+    /// Frees the approvals of its tasks, and drops everything.
     fn end(stage: Self::BuildingStage);
 }
 
@@ -358,7 +358,7 @@ pub trait BuildingCalls {
 
     /// Returns when a poll next has something to do: after the sleep that follows a failed try; or
     /// at once, as a moment in the past, before the first poll and while an attempt is pending.
-    /// None is never.
+    /// `None` means never.
     fn next_due(&self) -> Option<Moment>;
 
     /// Polls the build until it resolves. Between two polls it reads the pool's clock again, and

@@ -25,8 +25,8 @@ use std::time::Duration;
 /// the moment at which the pool was made. It reaps at them if `max_lifetime` or `idle_timeout` is
 /// set.
 ///
-/// When it is dropped, it reads the pool's clock and gives the approvals of its tasks back under
-/// the pool's lock, for which it may wait.
+/// When it is dropped, it reads the pool's clock and frees the approvals of its tasks under the
+/// pool's lock, for which it may wait.
 pub struct Driver<G: PoolTypes, L: Permits> {
     shared: Arc<Shared<G, L>, Global>,
     turning: Turning<G::Connection, G::Connecting, G::Acquiring>,
@@ -120,8 +120,8 @@ pub trait DriverCalls {
     /// opens a connection that was retired meanwhile, the connection is dropped, and approvals are
     /// granted for waiters, which the next turn claims.
     ///
-    /// If a claim finds no handle alive, it polls none, drops its attempts, gives all approvals
-    /// back and has ended, as in each later turn.
+    /// If a claim finds no handle alive, it polls none, drops its attempts, frees all approvals and
+    /// has ended, as in each later turn.
     fn turn(&mut self, moment: Moment) -> Turn;
 
     /// Reads the pool's clock, and makes one turn at that moment.

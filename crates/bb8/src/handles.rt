@@ -1,4 +1,4 @@
-//! The handles of a pool: how one joins, and how one leaves.
+//! The handles of a pool: how they are made and dropped.
 ghost use Rattle.std.specs.Arc.{arc_value};
 
 use crate::pool::Pool;
@@ -8,8 +8,8 @@ use bb8_lock::{Handle, OpensScope, Permits, PoolTypes, Shared, join};
 use std::alloc::Global;
 use std::sync::Arc;
 
-/// A handle with what it shares with the others of its pool. It cannot be dropped, so each place
-/// that gives one up says how.
+/// A handle with what it shares with the others of its pool. It cannot be dropped implicitly, so
+/// every path has to end it.
 pub(crate) struct BareHandle<G: PoolTypes, L: Permits> {
     pub shared: Arc<Shared<G, L>, Global>,
     pub handle: Handle,

@@ -5,7 +5,7 @@
 //! connections (`ManageConnection`); a service, which says what is done before its threads run, in
 //! each, and after them (`Service`); and a `main`, which builds the pool and runs the service over
 //! it (`Builder::serve`). It needs no proof file. `./new NAME` at the top of the repository creates
-//! such a program, with its line of `crates.txt`. `crates/bb8_examples/src/service.rt` is one over
+//! such a program, and its line in `crates.txt`. `crates/bb8_examples/src/service.rt` is one over
 //! the toolchain's `sqlite`. It runs by
 //!
 //! ```text
@@ -23,7 +23,7 @@
 //!
 //! `use bb8::{Cancel, Detach, Gets, PoolCalls}` brings the calls into scope. A program for one
 //! thread, or a test, is a `User` of `Builder::with_pool`. `docs/CALLING.md` has each call, and how
-//! to hold a pool's threads and permits in your own hands.
+//! to use threads and permits of your own.
 #![tactic(auto)]
 
 mod alone;

@@ -61,16 +61,16 @@ pub(crate) trait OwnedCalls {
     /// Cancels a get.
     fn let_go(&self, get: Self::Get);
 
-    /// Cancels a get, and then the handle leaves.
+    /// Cancels a get, and then drops the handle.
     fn cancel_owned(self, get: Self::Get);
 
-    /// Returns a connection, and then the handle leaves.
+    /// Returns a connection, and then drops the handle.
     fn give_back_owned(self, taken: Self::Taken);
 
-    /// The handle leaves.
+    /// Drops the handle.
     fn leave_owned(self);
 
-    /// Takes a connection out of the pool, and then the handle leaves.
+    /// Takes a connection out of the pool, and then drops the handle.
     fn detach_owned(self, taken: Self::Taken) -> Self::Connection;
 }
 

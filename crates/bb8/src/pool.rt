@@ -233,7 +233,7 @@ pub trait PoolCalls {
     fn try_get(self) -> Result<Option<Self::Guard>, RunError<Self::Error>>;
 
     /// Gets a connection as `get` does, in one call: it blocks the thread until the get resolves,
-    /// at most for `connection_timeout`. bb8 awaits.
+    /// at most for `connection_timeout`, unless a check blocks. bb8 awaits.
     ///
     /// Between the polls of its get the thread sleeps until a connection is returned, opened or
     /// added, or the deadline has come, and 50 milliseconds at most; while its connection is
@@ -249,9 +249,9 @@ pub trait PoolCalls {
     /// first; if it is refused, that is the error, and no get begins.
     fn get_owned_blocking(self) -> Result<Self::Owned, RunError<Self::Error>>;
 
-    /// Adds a connection that the pool did not open. It is first asked whether it is broken; if
-    /// not, it is idle at once, and its age counts from now. It does not count as created, and no
-    /// customizer prepares it. As bb8.
+    /// Adds a connection that the pool did not open. `has_broken` is called first; if it returns
+    /// false, the connection is idle at once, and its age counts from now. It does not count as
+    /// created, and no customizer prepares it. As bb8.
     ///
     /// An error returns the connection as `has_broken` left it: `Broken` if it is broken; else
     /// `NoCapacity` if connections and open approvals are already `max_size`; else `Withheld` if no
@@ -274,15 +274,15 @@ pub trait PoolCalls {
     /// never fails.
     fn try_clone(self) -> Result<Self::Handle, RunError<Self::Error>>;
 
-    /// Retires all connections: each present connection counts as too old from now on, and the
-    /// connection of an attempt in progress is not accepted. bb8 has no such call; its callers wait
-    /// for `max_lifetime`.
+    /// Retires all connections: each present one is treated as past `max_lifetime` from now on, and
+    /// the connection of an attempt in progress is not accepted. bb8 has no such call; its callers
+    /// wait for `max_lifetime`.
     ///
     /// Use it after a server was moved or a password was changed. Idle connections are closed now.
-    /// A checked-out one stays valid until it is returned, and is closed then. Each closed one
-    /// counts in `connections_closed_retired`. The connection of an attempt in progress is dropped
-    /// once it is open, and is not counted; a get that waits for it is served with a new one, which
-    /// a driver opens. Connections that are requested later are not affected.
+    /// A checked-out one stays valid until it is returned, and is closed then. Each one counts in
+    /// `connections_closed_retired`, unless it is broken. The connection of an attempt in progress
+    /// is dropped once it is open, and is not counted; a get that waits for it is served with a new
+    /// one, which a driver opens. Connections that are requested later are not affected.
     ///
     /// New connections are opened as far as `min_idle` requires, and no waiter is woken. The closed
     /// ones are dropped one after another once the lock is released, so a slow drop delays only
@@ -311,9 +311,9 @@ pub trait Detach {
     type Connection;
 
     /// Takes the connection out of the pool for good, and returns it. Its slot is freed: the
-    /// longest waiter is notified, and a new connection is requested if one is wanted. The
-    /// connection is not asked whether it is broken, and counts as closed in no statistic. The
-    /// handle of an `OwnedConnection` leaves then. bb8 has no such call.
+    /// longest waiter is notified, and a new connection is requested if one is wanted. `has_broken`
+    /// is not called, and the connection counts as closed in no statistic. The handle of an
+    /// `OwnedConnection` is dropped then. bb8 has no such call.
     fn detach(self) -> Self::Connection;
 }
 
@@ -475,8 +475,8 @@ impl<M: ManageConnection, R: Locks, L: Permits> Pool<
     TypesOf<M, NopErrorSink, NopCustomizer, SetClock, R>,
     L,
 > {
-    /// Returns a builder with each setting at its default. As bb8. It is a call of the pools
-    /// without sink and customizer whose moment is set.
+    /// Returns a builder with each setting at its default. As bb8. Only pools without sink and
+    /// customizer, on a `SetClock`, have it.
     pub fn builder() -> Builder<M>
         ensures { result.settings ≡ default_settings }
     {

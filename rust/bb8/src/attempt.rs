@@ -38,16 +38,16 @@ pub(crate) struct Attempt<M: ManageConnection> {
 #[derive(Clone, Copy, PartialEq)]
 enum Calls {
     Nothing,
-    /// The manager, the customizer, or a subscriber that hears of the connection.
+    /// The manager, the customizer, or a `tracing` subscriber that receives the connection's event.
     Connect,
-    /// The error sink, or a subscriber that hears of a failed try.
+    /// The error sink, or a `tracing` subscriber that receives the event of a failed try.
     Report,
 }
 
 /// Half of the first back-off.
 const SHORTEST: Duration = Duration::from_millis(200);
 
-/// The longest limit on a try that follows from others that took too long.
+/// The upper bound to which tries that take too long raise `learned_limit`.
 const LONGEST_TRY: Duration = Duration::from_secs(30);
 
 /// Returns a timer, or `None` in a runtime without timers, where tokio panics.
@@ -96,7 +96,8 @@ impl<M: ManageConnection> Attempt<M> {
     }
 
     /// Opens the connection. After an error it tries again as long as there is time, and then as
-    /// long as a get waits. Returns the last error, or `None` if the last try took too long.
+    /// long as a get waits. Fails with the last error, or with `None` if the last try took too
+    /// long.
     pub(crate) async fn run(mut self, is_limited: bool) -> Result<(), Option<M::Error>> {
         let config = &self.shared.clone().settings.config;
         let start = Instant::now();
@@ -198,7 +199,7 @@ impl<M: ManageConnection> Attempt<M> {
         let granted = locked.core.ask(Moment(at)).count;
         let max_size = self.shared.settings.config.max_size;
         let approval = (granted > 0).then(|| locked.claim(at, max_size)).flatten();
-        // `ask` counts approvals that are left to be opened.
+        // `ask` grants nothing for approvals that are still unclaimed, so those are opened, too.
         let due = granted > 1 || locked.unopened;
         drop(locked);
         self.shared.closing.notify_waiters();

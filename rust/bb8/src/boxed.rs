@@ -4,7 +4,7 @@
 use std::marker::PhantomData;
 use std::ops::{Deref, DerefMut};
 
-/// A connection, the moment from which on it is too old, and for events when it was opened.
+/// A connection, the end of its life, and, for events, when it was opened.
 struct Stored<C> {
     conn: C,
     end: u64,

@@ -291,9 +291,9 @@ impl<M: ManageConnection> Builder<M> {
     }
 
     /// Sets how long one connection attempt may take. An attempt that takes longer is dropped,
-    /// counts as failed, and is retried if [`Builder::retry_connection`] is set. So a server that
-    /// accepts connections and never replies does not hold the slots of the pool. Panics if it is
-    /// zero.
+    /// counts as failed, and is retried as any failed one ([`Builder::retry_connection`]). So a
+    /// server that accepts connections and never replies does not hold the slots of the pool.
+    /// Panics if it is zero.
     ///
     /// By default an attempt may take as long as `connection_timeout`. After one that was dropped
     /// the next may take twice as long, up to 30 seconds, until a connection is opened within
@@ -321,8 +321,9 @@ impl<M: ManageConnection> Builder<M> {
     /// The default is true. The pauses are 0.4 s, 0.8 s, 1.6 s and so on, at most half the
     /// `connection_timeout`.
     ///
-    /// Exception: as long as a get waits for it, an attempt is retried even after that time, if
-    /// this is false, or if the manager has panicked. So a get that outlives an outage is served.
+    /// Exception: as long as a get waits for it, an attempt is retried even after that time, even
+    /// if this is false, and even if the manager panicked. So a get that outlives an outage is
+    /// served.
     pub fn retry_connection(mut self, retry: bool) -> Self {
         self.config.retry_connection = retry;
         self

@@ -2,9 +2,8 @@
 
 pub(crate) use bb8_core::api::Moment;
 pub(crate) use bb8_core::internals::{
-    AddAnswer, AtOnce, CheckedErrAnswer, ClaimAnswer, ClosedList, DetachAnswer,
-    EvictAnswer, GetKey, GiveUpAnswer, Key, OpenedAnswer, PutBackAnswer, ReapAnswer, Reason,
-    Started, TryAnswer,
+    AddAnswer, AtOnce, CheckedErrAnswer, ClaimAnswer, ClosedList, DetachAnswer, EvictAnswer,
+    GetKey, GiveUpAnswer, Key, OpenedAnswer, PutBackAnswer, ReapAnswer, Reason, Started, TryAnswer,
 };
 
 use crate::boxed::Boxed;
@@ -51,8 +50,8 @@ pub(crate) fn core<C>(settings: &Config) -> Core<C> {
     Core::new(Global, config)
 }
 
-/// Returns the result of a step that fits. Only a bug in this crate makes one that does not: it
-/// names a get or a connection that the core does not have in that state, and changes nothing.
+/// Returns the result of a step that fits. Panics if it does not, which is a bug of this crate: the
+/// step names a get or a connection that the core does not have in that state.
 pub(crate) fn fit<A, E>(result: Result<A, E>) -> A {
     result.unwrap_or_else(|_| unfit())
 }

@@ -61,8 +61,8 @@ pub struct Statistics {
     /// `get` calls that timed out.
     pub get_timed_out: u64,
     /// `get` calls whose future was dropped before it resolved, those that returned `Closed` or
-    /// `Memory` after they had begun, and each [`Pool::try_get`](crate::Pool::try_get) if all that
-    /// it checked failed.
+    /// `Memory` after they had begun, and each [`Pool::try_get`](crate::Pool::try_get) for which
+    /// every check failed.
     #[doc(alias = "cancellation")]
     pub get_cancelled: u64,
     /// Total wait of served and timed-out gets, each from its first wait to its end, in whole
@@ -76,9 +76,9 @@ pub struct Statistics {
     pub connections_failed: u64,
     /// Connections that were closed, for any reason. Detached ones do not count.
     pub connections_closed: u64,
-    /// Connections that were closed because they were broken or their check was cut off, because
-    /// `on_release` did not keep them, or because they were returned past the end that
-    /// `max_lifetime_jitter` gave them.
+    /// Connections that were closed because they were broken, because their check was cut off by
+    /// the end or the cancellation of its get, because `on_release` did not keep them, or because
+    /// they were returned past the end that `max_lifetime_jitter` gave them.
     pub connections_closed_broken: u64,
     /// Connections that were closed because their check failed or took longer than `test_timeout`,
     /// or because a get took them out past the end that `max_lifetime_jitter` gave them.

@@ -102,7 +102,7 @@ impl<M: ManageConnection> Pool<M> {
 
     /// Checks out an idle connection, or returns `None` if none is idle and valid. It never waits
     /// for a connection, and requests none but those missing to `min_idle`. So a pool that is only
-    /// asked by `try_get` stays empty if it has no `min_idle`.
+    /// used by `try_get` stays empty if it has no `min_idle`.
     ///
     /// If connections are checked, it awaits the check. After one that fails it goes on with the
     /// next idle connection, as long as `connection_timeout` has not passed.

@@ -2,9 +2,7 @@
 
 use crate::api::{Pool, PooledConnection};
 use crate::builder::{Checks, Config};
-use crate::core::{
-    fit, Checkout, Core, GetKey, Held, Moment, Reason, Started, TryAnswer,
-};
+use crate::core::{fit, Checkout, Core, GetKey, Held, Moment, Reason, Started, TryAnswer};
 use crate::errors::RunError;
 use crate::events::MAX_LIFETIME;
 use crate::lock::MutexGuard;

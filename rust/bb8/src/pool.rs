@@ -40,8 +40,8 @@ pub(crate) struct Locked<C> {
     pub(crate) cut_off: Vec<Claimed<C>>,
     /// How many connection attempts are in progress.
     pub(crate) pending: u32,
-    /// Without a `connect_timeout`, how long an attempt may take, if that is more than
-    /// `connection_timeout`: others took too long.
+    /// Without a `connect_timeout`, an attempt may take this long or `connection_timeout`,
+    /// whichever is longer. It is zero unless attempts took too long.
     pub(crate) learned_limit: Duration,
     /// How many closed connections are being dropped. Their slots are free in the core already.
     pub(crate) dropping: u32,
@@ -318,7 +318,7 @@ impl<M: ManageConnection> Shared<M> {
                 return Ok(());
             }
             Ok(AddAnswer::Withheld(conn)) => (AddError::Withheld, conn),
-            // A closed pool has no capacity either. The core was told that it is not broken.
+            // A closed pool has no capacity either. `Broken` cannot be: `broken` was false.
             Ok(AddAnswer::NoCapacity(conn) | AddAnswer::Broken(conn)) | Err(conn) => {
                 (AddError::NoCapacity, conn)
             }
@@ -423,7 +423,7 @@ impl<M: ManageConnection> Shared<M> {
         is_closed
     }
 
-    /// Resolves once the condition holds. It can begin to hold only before `closing` notifies.
+    /// Resolves once the condition holds. Each step that can make it hold notifies `closing` then.
     pub(crate) async fn reached(&self, condition: fn(&mut Locked<M::Connection>) -> bool) {
         loop {
             let notified = self.closing.notified();

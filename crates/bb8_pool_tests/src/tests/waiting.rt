@@ -302,8 +302,9 @@ fn quickest<R: Runtime + CpuClock + Threads>(rt: R, trial: Trial) -> Result<u64,
 }
 
 /// Four threads wait for a second; three of them are woken in between and wait for one more second.
-/// They use less than 40 milliseconds of a processor. A thread that did not sleep, or not after
-/// that notification, would use most of a second.
+/// They use less than 40 milliseconds of a processor, in one of five trials at least, as a machine
+/// that pauses counts for more. A thread that did not sleep, or not after that notification, would
+/// use most of a second in each.
 #[test]
 fn waiting_threads_sleep(rt: HostRuntime) -> Result<(), Fail> {
     let trial = Trial {
@@ -312,7 +313,12 @@ fn waiting_threads_sleep(rt: HostRuntime) -> Result<(), Fail> {
         holds_again: true,
         ..ONE
     };
-    let Waited { used, .. } = wait_in(rt, trial)?;
+    let mut used = u64::MAX;
+    for _ in 0..5u32 {
+        if used >= 40_000_000 {
+            used = used.min(wait_in(rt, trial)?.used);
+        }
+    }
     assert!(&rt; used < 40_000_000, "{used} nanoseconds");
     Ok(())
 }

@@ -310,7 +310,10 @@ async fn judge(
         "samples                              {}",
         read(&seen.samples)
     );
-    println!("attempts cut off                     {}", read(&log.cut_off));
+    println!(
+        "attempts cut off                     {}",
+        read(&log.cut_off)
+    );
     println!("connections ended by the server      {}", read(&seen.ended));
     println!("errors in the sink                   {}", read(&seen.sunk));
     println!(
