@@ -61,7 +61,7 @@ pub async fn open(config: &Config) -> Result<Client, Error> {
     Ok(client)
 }
 
-/// Opens a connection, and returns the number of the server's process, too, by a query that prepares
+/// Opens a connection, and returns the number of its server process, too, by a query that prepares
 /// no statement.
 async fn open_and_ask(config: &Config) -> Result<(Client, i32), Error> {
     let client = open(config).await?;
