@@ -15,7 +15,7 @@ two_opened =
     ∷ 0 ▸ opens 1 ⇒ Entered 1 None
     ∷ []
 
--- the two are opened and three gets take one each: what is idle is made good each time
+-- the two are opened and three gets take one each: what is idle is replaced each time
 abbrev pub three_out : List RowLine
 three_out =
     0 ▸ Fill false ⇒ Granted (grant 2 at 0)
@@ -482,7 +482,7 @@ retired_while_opening =
     ∷ 5 ▸ returns 1 ⇒ Kept 1 None
     ∷ []
 
--- `min_idle` spares nothing at a retire and is made good, and what that brings is not retired
+-- `min_idle` spares nothing at a retire and is restored, and the new connections are not retired
 abbrev pub retired_and_made_good : List RowLine
 retired_and_made_good =
     0 ▸ adds 0 ⇒ Added 0 None
@@ -509,7 +509,7 @@ detached_once =
     ∷ 0 ▸ Try 1 ⇒ Waiting (grant 1 at 1)
     ∷ []
 
--- two guards leave past the lifetime: `min_idle` is made good each time, and the oldest of two waiters is notified
+-- two guards leave past the lifetime: `min_idle` is restored each time, and the oldest of two waiters is notified
 abbrev pub detached_and_made_good : List RowLine
 detached_and_made_good =
     0 ▸ adds 0 ⇒ Added 0 None
@@ -530,7 +530,7 @@ detached_and_made_good =
     ∷ 5 ▸ Detach 0 ⇒ Closed 0 (grant 1 at 3) (Some 2)
     ∷ []
 
--- idle connections past the lifetime are evicted by their numbers: they leave the queue, `min_idle` is made good, and they count as detached
+-- idle connections past the lifetime are evicted by their numbers: they leave the queue, `min_idle` is restored, and they count as detached
 abbrev pub evicted_and_made_good : List RowLine
 evicted_and_made_good =
     0 ▸ adds 0 ⇒ Added 0 None
