@@ -238,17 +238,23 @@ fn time_start<R: Runtime + CpuClock + Threads>(
 }
 
 /// A server that is down is tried for more than a second, in which the waiting thread uses less
-/// than 50 milliseconds of a processor. If the first attempt takes half a second, in some 500
-/// polls, it uses less than a third of that. A thread that polled without a pause would use all of
-/// it.
+/// than 50 milliseconds of a processor, in one of five trials at least. If the first attempt takes
+/// half a second, in some 500 polls, it uses less than a third of that. A thread that polled
+/// without a pause would use all of it.
 #[test]
 fn first_connections_are_awaited_asleep(rt: HostRuntime) -> Result<(), Fail> {
     let board = Board::new(rt.alloc())?;
     board.opening.set(Course::Fails);
-    let down = time_start(rt, &board)?;
-    assert!(&rt; matches!(down.answer, Err(RunError::User(_))));
-    assert!(&rt; down.lasted > SECOND, "{} nanoseconds", down.lasted);
-    assert!(&rt; down.used < 50_000_000, "{} nanoseconds", down.used);
+    let mut used = u64::MAX;
+    for _ in 0..5u32 {
+        if used >= 50_000_000 {
+            let down = time_start(rt, &board)?;
+            assert!(&rt; matches!(down.answer, Err(RunError::User(_))));
+            assert!(&rt; down.lasted > SECOND, "{} nanoseconds", down.lasted);
+            used = used.min(down.used);
+        }
+    }
+    assert!(&rt; used < 50_000_000, "{used} nanoseconds");
     board.opening.set(Course::Passes);
     board
         .ready
