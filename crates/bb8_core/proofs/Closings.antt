@@ -9,7 +9,8 @@ use Rattle.bb8_core.specs.declared.answers.ReapAnswer.TheVariants as reaping
 use Rattle.bb8_core.specs.Closings.{AreIdleAs, Offers, OffersReaped, OffersRetired, OffersLeft, OffersShut}
 use Rattle.bb8_types.proofs.Numbered as numbered
 use Rattle.bb8_core.proofs.Fitting.{shown, shown_record}
-use Rattle.bb8_core.proofs.Reaps.{both_ended, Ended_at, ended_at, Retired_at, retired_ends, retiring_by, old_ones, other_ones}
+use Rattle.bb8_core.proofs.Meets.{retiring_by}
+use Rattle.bb8_core.proofs.Reaps.{both_ended, Ended_at, ended_at, Retired_at, retired_ends, old_ones, other_ones}
 use Rattle.bb8_core.proofs.ShownLeft.{shown-idle_end}
 
 -- ---- how often a number comes

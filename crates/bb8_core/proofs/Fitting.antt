@@ -1,7 +1,8 @@
 -- What the condition of a step says of what is shown.
 use Rattle.std.proofs.lemmas.Bool.Decides.{nat_tests}
-use Rattle.bb8_core.proofs.Words.{◌≡◌, ◌≢◌, Begin, ℕ, length, ◌≤◌, Bool, true, false, Option, Some, None, is_some, refl, sym, ap, ◌∙◌, subst, ◌+◌, ◌<◌, max, arith, ltb-true, get, Place, Standing, Getting, CheckedOk, GiveUp, Leave, Reason, Cancelled, Act, Answer, Ledger, agree, ◌&&◌, get_of, start, handles, records, gets, record_of, holds, stands, gets_stand, is_unnotified, is_claimed, is_guarded, is_held_by, is_out, is_conn, is_trying, fits, IsLegal, StateView, shown_beside, HasLedger, IsFitting, Represents, standing_is, claimed_is, guarded_out, and_right, all_held, alive_get, alive_is, conn_counted, conn_from, claimed_counted, Fits, all_fit, due_few, Numbered, end_of_numbers, due, Settings, no_accesses, RecordsView, NoneAfter, ltb}
+use Rattle.bb8_core.proofs.Words.{alive_is, arith, refl, sym, ◌∙◌, ap, ℕ, ◌≡◌, ◌+◌, false, subst, Some, true, ◌≤◌, Bool, Option, None, Idle, Numbered, ◌<◌, max, Ledger, Standing, length, start, standing_is, and_right, ◌≢◌, stands, records, ◌&&◌, gets_stand, Getting, end_of_numbers, Place, fits, is_unnotified, Begin, gets, is_out, IsLegal, get_of, is_some, is_conn, Settings, is_claimed, Leave, is_guarded, due, holds, handles, GiveUp, record_of, claimed_is, Act, Answer, conn_from, is_trying, Reason, is_held_by, Cancelled, ltb-true, CheckedOk, ltb, get, guarded_out, no_accesses, RecordsView, NoneAfter, all_held, claimed_counted, all_fit, Fits, alive_get, due_few, conn_counted, StateView, HasLedger, IsFitting, Represents, shown_beside, agree}
 use Rattle.std.proofs.Common.{lt-ltb}
+use Rattle.bb8_core.specs.StepAnswers.{IsIdleAs}
 use Rattle.bb8_core.specs.StateView.{IsAsBefore, IsWithinLimits, ReportsFitting, Steps}
 use Rattle.std.proofs.lemmas.Option.{slice_get_within}
 use Rattle.bb8_types.specs.Places.{first_of, first_place}
@@ -65,7 +66,12 @@ module _ {C : Type 0} where
   pub shown_record : (l : Ledger C) (s : StateView C) → Represents l s → (k : ℕ) → record_of l k ≡ get s.records.places k
   shown_record l s is k = sym (numbered.get-numbered (λ (r : Numbered (Standing C)). r.standing) (records l) (start l).first k) ∙ ap (λ (t : StateView C). get t.records.places k) is
 
-  -- so no birth and no entry of what a state shows lies after the moment of its next event
+  -- so a connection that is idle there is so on each ledger
+  pub idle_as : {s t : StateView C} (k : ℕ) (c : C) → s ≡ t
+      → (birth : ℕ) × (entered : ℕ) × (get s.records.places k ≡ Some (record { place = Idle c; birth = birth; entered = entered })) → IsIdleAs t k c
+  idle_as {s} {t} k c is was l legal means = (record { place = Idle c; birth = was.0; entered = was.1 }, shown_record l s (as_shown l (sym is) means) k ∙ was.2, refl)
+
+  -- no birth and no entry of what a state shows lies after the moment of its next event
   pub none_after : (s : StateView C) (at now : ℕ) → HasLedger s → now ≡ max s.latest at → NoneAfter now s.records
   none_after s at now h now_is k r e = grind (arith, nat_tests, none_later h.0 k r, shown_record h.0 s h.2 k)
 

@@ -4,9 +4,11 @@ pub mod ShownLeft
 pub mod ShownReaped
 pub mod ShownGets
 pub mod Fitting
+pub mod Meets
 pub mod Steps
 pub mod GetEnds
 pub mod Reaps
+pub mod Rows
 pub mod ClosesBelow
 pub mod Closings
 pub mod Runs

@@ -83,9 +83,6 @@ module _ {C : Type 0} where
       subst (λ (x : StateView C). IsCounted x (going e a) (coming e a) new) h.2
       (subst (λ (x : StateView C). IsCounted (shown_beside old.reads h.0) (going e a) (coming e a) x) m.1 (counted_at h.0 at e a old.reads new.reads h.1 m.0))
 
-  pub config_kept : {old : StateView C} (new : StateView C) (at : ℕ) (e : Act C) (a : Answer) → Steps old at e a new → new.config ≡ old.config
-  config_kept new at e a step = (counted new at e a step).config
-
   ended_one : {s old : StateView C} {now : AccessCount} {n m : ℕ} → s ≡ old → now ≡ record { ended = one_more s.reads; reads = n; searched = m } → now.ended ≡ one_more old.reads
   ended_one is counts = ap (λ (l : AccessCount). l.ended) counts ∙ ap (λ (x : StateView C). one_more x.reads) is
 

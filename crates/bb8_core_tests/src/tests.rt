@@ -1,7 +1,7 @@
 //! Tests against values from outside: rows that were worked out by hand, each call once, audits
 //! that must fail, and refused memory.
 
-use bb8_core::api::{Config, Moment, State, Statistics};
+use bb8_core::api::{Moment, State, Statistics};
 use bb8_core::internals::{Grant, PoolInternals};
 use bb8_core::replay::{Act, Answer, Event, Known, apply};
 use bb8_runner::grammar::event_of;
@@ -17,9 +17,9 @@ mod journals;
 mod reads;
 mod replays;
 mod scripts;
-mod steps;
 mod surface;
 mod tasks;
+mod vast;
 
 /// Ends the test if the found value is not the wanted one, and prints both.
 fn assert_equal<T: PartialEq + Debug + Drop>(rt: &impl Abort, found: T, wanted: T) {
@@ -50,27 +50,12 @@ const FIRST_SCRIPT: &[u8] = b"\
     0 return 1\n\
     0 return 2\n";
 
-/// One millisecond and one second in nanoseconds.
-const MILLI: u64 = 1_000_000;
-
-const SECOND: u64 = 1_000_000_000;
-
-/// Returns a grant that withholds nothing.
-fn granted(first: u64, count: u32) -> Grant {
+/// Returns a grant from a number on, with this many granted and withheld.
+fn grant(first: u64, count: u32, withheld: u32) -> Grant {
     Grant {
         first,
         count,
-        withheld: 0,
-    }
-}
-
-/// Returns settings with the check off.
-fn unchecked(max_size: u32, min_idle: Option<u32>) -> Config {
-    Config {
-        max_size,
-        min_idle,
-        test_on_check_out: false,
-        ..Config::default()
+        withheld,
     }
 }
 
@@ -92,12 +77,10 @@ struct Player {
 }
 
 impl Player {
-    /// Returns an empty pool with the settings of this line.
-    fn new(alloc: Global, config: &str) -> Result<Player, Fail> {
-        let Ok(script) = script_of(alloc, &[config.as_bytes()]) else {
-            return Err(Fail::from("no configuration"));
-        };
-        Ok(Player {
+    /// Returns an empty pool with the settings of this line, if there is memory for them.
+    fn new(alloc: Global, config: &str) -> Option<Player> {
+        let script = script_of(alloc, &[config.as_bytes()]).ok()?;
+        Some(Player {
             alloc,
             pool: PoolInternals::new(alloc, script.config),
             known: Known::new(alloc, 0, 0),

@@ -1,36 +1,20 @@
 -- Notes and the entries that they are of.
-use Rattle.bb8_journal.proofs.Words.{Bool, true, false, cond, ◌==◌, ◌≡◌, ℕ, zero, suc, ◌+◌, ◌<◌, ◌≤◌, ◌⊎◌, inl, inr, List, [], ◌∷◌, ◌++◌, map, length, take, get_or, refl, sym, ap, ◌∙◌, subst, append-nil, arith, All, IsPermutation, Contains, sum_by, remove, take_more, length-take-le, length-map, All-contains, All-head, All-tail, All-push, Contains-get_or, Contains-append_left, Contains-append_right, Contains-append_cases, Answer, Entry, Notes, Line, lines_from, lines_by, lines_noted, IsAccount, entries_of, steps_in}
+use Rattle.bb8_journal.proofs.Words.{Bool, true, false, cond, ◌==◌, ◌≡◌, ℕ, zero, suc, ◌+◌, ◌<◌, ◌≤◌, ◌⊎◌, inl, inr, List, [], ◌∷◌, ◌++◌, map, length, take, get_or, refl, sym, ap, ◌∙◌, subst, append-nil, arith, All, IsPermutation, Contains, sum_by, remove, take_more, length-take-le, length-map, All-contains, All-nil, All-cons, All-weaker, get_or-map, All-head, All-tail, All-push, Contains-get_or, Contains-append_left, Contains-append_right, Contains-append_cases, Answer, Entry, Notes, Line, lines_from, lines_by, lines_noted, IsAccount, entries_of, steps_in}
 use Rattle.std.proofs.lemmas.List.Sums.{sum_by-cons, sum_by-append}
+use Rattle.std.proofs.lemmas.Map.Made.{Contains-tail}
 use Rattle.std.proofs.lemmas.List.Concat.{flat_map-append, length-flat_map}
 use Rattle.std.proofs.lemmas.List.Sorted.{IsPermutation-refl, IsPermutation-sym, IsPermutation-cons, IsPermutation-trans, IsPermutation-remove, Contains-permutation, length_permutation, sum_by-IsPermutation}
 
 -- ---- elements of lists
 
-contains_later : {X : Type 0} (y x : X) (xs : List X) → Contains xs x → Contains (y ∷ xs) x
-contains_later y x xs p = (suc p.0, omega (arith, p.1), p.2)
-
-contains_cases : {X : Type 0} (y x : X) (xs : List X) → Contains (y ∷ xs) x → (y ≡ x) ⊎ Contains xs x
-contains_cases {X} y x xs p = by_index p.0 p.1 p.2
-  where
-    by_index : (k : ℕ) → k < suc (length xs) → get_or (y ∷ xs) k x ≡ x → (y ≡ x) ⊎ Contains xs x
-    by_index zero within found = inl found
-    by_index (suc k) within found = inr (k, omega arith, found)
-
 map_contains : {X Y : Type 0} (f : X → Y) (xs : List X) (x : X) → Contains xs x → Contains (map f xs) (f x)
-map_contains f [] x p = absurd (let q : p.0 < 0 = p.1 in omega arith)
-map_contains {X} {Y} f (y ∷ ys) x p = go (map_contains f ys x) (contains_cases y x ys p)
-  where
-    go : (Contains ys x → Contains (map f ys) (f x)) → (y ≡ x) ⊎ Contains ys x → Contains (f y ∷ map f ys) (f x)
-    go later (inl is) = (0, omega arith, ap f is)
-    go later (inr h) = contains_later (f y) (f x) (map f ys) (later h)
+map_contains f xs x p = (p.0, rw length-map p.1, get_or-map f xs p.0 x (f x) p.1 ∙ ap f p.2)
 
 map_origin : {X Y : Type 0} (f : X → Y) (xs : List X) (y : Y) → Contains (map f xs) y → (x : X) × Contains xs x × (f x ≡ y)
 map_origin f [] y p = absurd (let q : p.0 < 0 = p.1 in omega arith)
-map_origin {X} {Y} f (x ∷ xs) y p = go (map_origin f xs y) (contains_cases (f x) y (map f xs) p)
-  where
-    go : (Contains (map f xs) y → (w : X) × Contains xs w × (f w ≡ y)) → (f x ≡ y) ⊎ Contains (map f xs) y → (w : X) × Contains (x ∷ xs) w × (f w ≡ y)
-    go later (inl is) = (x, (0, omega arith, refl), is)
-    go later (inr h) = let r = later h in (r.0, contains_later x r.0 xs r.1, r.2)
+map_origin f (x ∷ xs) y p =
+    let below : p.0 < length (x ∷ xs) = rw length-map at p.1 in
+    (get_or (x ∷ xs) p.0 x, Contains-get_or (x ∷ xs) p.0 x below, sym (get_or-map f (x ∷ xs) p.0 x y below) ∙ p.2)
 
 -- ---- what seats noted
 
@@ -85,17 +69,13 @@ pub line_in : (i j k : ℕ) (es : List Entry) (d : Entry) → k < length es → 
 line_in i j k [] d few is = absurd (omega arith)
 line_in i j zero (e ∷ es) d few is = (0, omega arith, ap (λ (n : ℕ). (n, (e.seat, e.answer))) (omega arith))
 line_in i j (suc k) (e ∷ es) d few is =
-    contains_later (i, (e.seat, e.answer)) (j, ((get_or es k d).seat, (get_or es k d).answer)) (lines_from (i + 1) es)
+    Contains-append_right ((i, (e.seat, e.answer)) ∷ []) (lines_from (i + 1) es) (j, ((get_or es k d).seat, (get_or es k d).answer))
     (line_in (i + 1) j k es d (omega arith) (omega arith))
 
 -- the lines from an index on have no lower one
-low : (i : ℕ) (es : List Entry) (x : Line) → Contains (lines_from i es) x → i ≤ x.0
-low i [] x h = absurd (let q : h.0 < 0 = h.1 in omega arith)
-low i (e ∷ es) x h = go (low (i + 1) es x) (contains_cases (i, (e.seat, e.answer)) x (lines_from (i + 1) es) h)
-  where
-    go : (Contains (lines_from (i + 1) es) x → i + 1 ≤ x.0) → ((i, (e.seat, e.answer)) ≡ x) ⊎ Contains (lines_from (i + 1) es) x → i ≤ x.0
-    go later (inl is) = let p : i ≡ x.0 = ap (λ (l : Line). l.0) is in omega arith
-    go later (inr p) = let q : i + 1 ≤ x.0 = later p in omega arith
+low : (i : ℕ) (es : List Entry) → All (λ x. i ≤ x.0) (lines_from i es)
+low i [] = All-nil (λ x. i ≤ x.0)
+low i (e ∷ es) = All-cons (λ x. i ≤ x.0) (i, (e.seat, e.answer)) (lines_from (i + 1) es) (omega arith) (All-weaker (λ x. i + 1 ≤ x.0) (λ x. i ≤ x.0) (λ x h. omega (arith, h)) (lines_from (i + 1) es) (low (i + 1) es))
 
 -- one entry more is noted
 pub more_noted : (A : List Line) (es : List Entry) (i : ℕ) (d : Entry) → i < length es
@@ -127,12 +107,11 @@ accounts i (e ∷ es) A all len =
     first : IsPermutation A (b ∷ remove A at.0)
     first = IsPermutation-remove A at.0 b at.1 (sym at.2)
 
-    pick : (x : Line) → Contains (lines_from (i + 1) es) x → (b ≡ x) ⊎ Contains (remove A at.0) x → Contains (remove A at.0) x
-    pick x h (inl is) = absurd (let p : i ≡ x.0 = ap (λ (l : Line). l.0) is in let q : i + 1 ≤ x.0 = low (i + 1) es x h in omega arith)
-    pick x h (inr p) = p
-
     others : (x : Line) → Contains (lines_from (i + 1) es) x → Contains (remove A at.0) x
-    others x h = pick x h (contains_cases b x (remove A at.0) (Contains-permutation A (b ∷ remove A at.0) x first (all x (contains_later b x (lines_from (i + 1) es) h))))
+    others x h =
+        let above : i + 1 ≤ x.0 = All-contains (λ x. i + 1 ≤ x.0) (lines_from (i + 1) es) x (low (i + 1) es) h in
+        Contains-tail b (remove A at.0) x (λ is. omega (arith, above, ap (λ (l : Line). l.0) is))
+        (Contains-permutation A (b ∷ remove A at.0) x first (all x (Contains-append_right (b ∷ []) (lines_from (i + 1) es) x h)))
 
 -- Notes that are complete, that are as many as the entries, and among which each entry has
 -- its line, account for the history.

@@ -2,13 +2,13 @@
 -- from and the place that it moves to.
 use Rattle.bb8_ledger.proofs.Words.{ne_eqb, ◌≡◌, ◌⊎◌, ℕ, zero, suc, ◌+◌, ◌<◌, ◌≤◌, max, Bool, true, false, cond, eqb, List, [], ◌∷◌, ◌++◌, length, take, drop, ◌-◌, map, Option, Some, None, slice_get, option_map, option_and_then, refl, sym, ap, ◌∙◌, inl, inr, arith, subst, length-append, length-map, take-length, unwrap_or, Place, Unclaimed, Idle, Held, Guarded, Standing, Holder, Guard, Get, Settings, is_lawful, Act, Leave, Answer, Left, Unfit, Numbered, at_number, update, numbers, in_order, one, standing_at, after_end, after_end_where, Ledger, Opening, Later, Start, start, position, latest, handles, records, conns, approved, idle_count, out, first_idle, unclaimed, record_of, with_ended, outlived, idled, reaped, over_idle_at, tally_places, conns_of, approved_of, idle_of, at_place, entry, at_entry, approval, with_approvals, stands, is_conn, is_approval, is_idle, is_out, is_claimed, is_guarded, is_held_by, idles_out, lives_out, is_left, with_place, Row, IsLegal, Allowed, fits, with_record, reaped_at, outlived_at, idled_at, retired_at, retiring, standing_is, unclaimed_is, claimed_is, guarded_is, idle_is, and_right, ◌*◌, MatchBool, Claimed, nat_tests}
 use Rattle.bb8_types.proofs.Numbered as numbered
+use Rattle.bb8_ledger.specs.Limits.{AtEach}
 use Rattle.bb8_ledger.proofs.Facts.{conns_split}
 use Rattle.bb8_ledger.proofs.Waiters.{at_update, changed_tally}
 
 -- which way a test went, with what it says
 pub by_fit : (b : Bool) (P Q G : Type 0) → MatchBool b P Q → (b ≡ true → P → G) → (b ≡ false → Q → G) → G
-by_fit true P Q G m fit misfit = fit refl m
-by_fit false P Q G m fit misfit = misfit refl m
+by_fit b P Q G m fit misfit = grind (arith, nat_tests)
 
 -- a number that is not one is less or more
 not_one : (n : ℕ) → eqb n 1 ≡ false → 1 ≤ (n - 1) + (1 - n)
@@ -46,6 +46,11 @@ module _ {C : Type 0} where
   each_legal P opening unfit row (Opening s) legal = opening s legal
   each_legal P opening unfit row (Later l at e a) legal = grind (arith, nat_tests, each_legal P opening unfit row l legal.0, each_allowed)
 
+  -- what holds at each event of the table, and at one that does not fit, holds at each event
+  pub at_each : (P : Ledger C → ℕ → Act C → Answer → Type 0) → ((l : Ledger C) (at : ℕ) (e : Act C) → P l at e Unfit)
+      → ((l : Ledger C) (at : ℕ) (e : Act C) (a : Answer) → IsLegal l → fits l e ≡ true → Row l at e a → P l at e a) → (l : Ledger C) → IsLegal l → AtEach P l
+  at_each P unfit row = each_legal (AtEach P) (λ s lawful. tt) (λ l at e before. (before, unfit l at e)) (λ l at e a legal f z before. (before, row l at e a legal f z))
+
   -- ---- the state of a record
 
   -- whether a place passes, where there is one
@@ -59,8 +64,7 @@ module _ {C : Type 0} where
   place_of (Some s) = Some s.place
 
   stands_by_place : (test : Place C → Bool) (o : Option (Standing C)) → stands test o ≡ passes test (place_of o)
-  stands_by_place test None = refl
-  stands_by_place test (Some s) = refl
+  stands_by_place test o = grind (arith, nat_tests)
 
   -- the record k, which had a state, is changed, and then has another or has ended
   pub record Turns (l : Ledger C) (k : ℕ) (p : Place C) (q : Option (Place C)) (f : Numbered (Standing C) → Numbered (Standing C)) : Type 0 where
@@ -137,8 +141,9 @@ module _ {C : Type 0} where
 
   pub turned_sized : {l : Ledger C} {k : ℕ} {p : Place C} {q : Option (Place C)} {f : Numbered (Standing C) → Numbered (Standing C)} → Turns l k p q f → Sized l (Some p) q 0 0 (with_record l k f)
   turned_sized {l} {k} {p} {q} {f} t =
-      omega (
+      grind (
         arith,
+        nat_tests,
         turned_tally l k p q f is_conn t,
         turned_tally l k p q f is_approval t,
         turned_tally l k p q f is_idle t,
@@ -202,9 +207,7 @@ module _ {C : Type 0} where
   pub kept_holder : {l : Ledger C} {k : ℕ} {p : Place C} {q : Option (Place C)} {f : Numbered (Standing C) → Numbered (Standing C)}
       (j : ℕ) → Turns l k p q f → holder_in (Some p) ≡ None → holder_in q ≡ None → holder_at (start l).first (with_record l k f) j ≡ holder_at (start l).first (records l) j
   kept_holder {l} {k} {f = f} j t was is =
-      let m = numbered.standing_found (records l) (start l).first k t.standing t.was in
-      updated_same holder (records l) (start l).first k j f
-      (ap (λ (o : Option (Numbered (Standing C))). holder (option_map f o)) m.1 ∙ ap holder_in (t.to m.0 m.2) ∙ is ∙ sym (turned_from t ∙ was))
+      grind (arith, nat_tests, numbered.standing_found (records l) (start l).first k t.standing t.was, updated_same holder (records l) (start l).first k j f, turned_from t)
 
   -- approvals are made, which nobody has
   pub granted_holder : (first j : ℕ) (claimed : Bool) (n : ℕ) (rs : List (Numbered (Standing C))) → holder_at first (with_approvals claimed n rs) j ≡ holder_at first rs j
@@ -287,7 +290,7 @@ module _ {C : Type 0} where
       omega (arith, changed_tally (stands test) after_end rs first k r.0 (Some s.0) r.1 r.2, ended_tally test z is first ks (update first k after_end rs) all.1)
 
   -- and nobody has one of them
-  ended_holder : (first : ℕ) (ks : List ℕ) (rs : List (Numbered (Standing C))) (j : ℕ) → AllIdle first ks rs → holder_at first (with_ended first ks rs) j ≡ holder_at first rs j
+  pub ended_holder : (first : ℕ) (ks : List ℕ) (rs : List (Numbered (Standing C))) (j : ℕ) → AllIdle first ks rs → holder_at first (with_ended first ks rs) j ≡ holder_at first rs j
   ended_holder first [] rs j all = refl
   ended_holder first (k ∷ ks) rs j all =
       let s = standing_is is_idle (standing_at first rs k) all.0 in
@@ -323,8 +326,7 @@ module _ {C : Type 0} where
   lives_idle config now o e = grind (arith, nat_tests)
 
   pub idles_idle : (config : Settings) (now : ℕ) (o : Option (Standing C)) → idles_out config now o ≡ true → stands is_idle o ≡ true
-  idles_idle config now None e = cc
-  idles_idle config now (Some s) e = (and_right (is_idle s.place) _ e).0
+  idles_idle config now o e = grind (arith, nat_tests)
 
   -- those that live too long are one
   pub outlived_line : (s : Start) (now : ℕ) → IsLine s.first (outlived s now)
@@ -371,42 +373,26 @@ module _ {C : Type 0} where
       (subst (λ (ks : List ℕ). AllIdle s.first ks rs) (take-length (outlived s now rs)) aged)
       (front_idle s.first (over_idle s m now) (over_idle_line s m now) (idle_of then - unwrap_or s.config.min_idle 0) (over_idle s m now then) then refl)
 
-  -- a reap spares what somebody has
-  pub reaped_holder : (l : Ledger C) (at j : ℕ) → holder_at (start l).first (with_ended (start l).first (reaped_at l at) (records l)) j ≡ holder_at (start l).first (records l) j
-  reaped_holder l at j = ended_holder (start l).first (reaped_at l at) (records l) j (reaped_idle (start l) (position l) (max (latest l) at) (records l))
+  -- once idle records have ended, `life` of them for their age
+  ended_sized : (l : Ledger C) (ks : List ℕ) (life : ℕ) → AllIdle (start l).first ks (records l) → life ≤ length ks → AreReaped l (length ks) life 0 (with_ended (start l).first ks (records l))
+  ended_sized l ks life all few = omega (
+    arith,
+    ended_tally is_conn 1 (λ c. refl) (start l).first ks (records l) all,
+    ended_tally is_approval 0 (λ c. refl) (start l).first ks (records l) all,
+    ended_tally is_idle 1 (λ c. refl) (start l).first ks (records l) all,
+    ended_tally is_out 0 (λ c. refl) (start l).first ks (records l) all,
+    ended_length (start l).first ks (records l),
+  )
 
   pub reaped_sized : (l : Ledger C) (at : ℕ) → AreReaped l (length (reaped_at l at)) (length (outlived_at l at)) 0
       (with_ended (start l).first (reaped_at l at) (records l))
   reaped_sized l at =
-      let ks : List ℕ = reaped_at l at in
-      let all = reaped_idle (start l) (position l) (max (latest l) at) (records l) in
-      omega (
-        arith,
-        ended_tally is_conn 1 (λ c. refl) (start l).first ks (records l) all,
-        ended_tally is_approval 0 (λ c. refl) (start l).first ks (records l) all,
-        ended_tally is_idle 1 (λ c. refl) (start l).first ks (records l) all,
-        ended_tally is_out 0 (λ c. refl) (start l).first ks (records l) all,
-        ended_length (start l).first ks (records l),
-        length-append (outlived_at l at) (idled_at l at),
-      )
+      ended_sized l (reaped_at l at) (length (outlived_at l at)) (reaped_idle (start l) (position l) (max (latest l) at) (records l)) (omega (arith, length-append (outlived_at l at) (idled_at l at)))
 
-  -- so does a retire
-  pub retired_holder : (l : Ledger C) (at j : ℕ) → holder_at (start l).first (with_ended (start l).first (retired_at l at) (records l)) j ≡ holder_at (start l).first (records l) j
-  retired_holder l at j = ended_holder (start l).first (retired_at l at) (records l) j (reaped_idle (retiring (start l)) (position l) (max (latest l) at) (records l))
-
+  -- and after a retire
   pub retired_sized : (l : Ledger C) (at : ℕ) → AreReaped l (length (retired_at l at)) (length (retired_at l at)) 0
       (with_ended (start l).first (retired_at l at) (records l))
-  retired_sized l at =
-      let ks : List ℕ = retired_at l at in
-      let all = reaped_idle (retiring (start l)) (position l) (max (latest l) at) (records l) in
-      omega (
-        arith,
-        ended_tally is_conn 1 (λ c. refl) (start l).first ks (records l) all,
-        ended_tally is_approval 0 (λ c. refl) (start l).first ks (records l) all,
-        ended_tally is_idle 1 (λ c. refl) (start l).first ks (records l) all,
-        ended_tally is_out 0 (λ c. refl) (start l).first ks (records l) all,
-        ended_length (start l).first ks (records l),
-      )
+  retired_sized l at = ended_sized l (retired_at l at) (length (retired_at l at)) (reaped_idle (retiring (start l)) (position l) (max (latest l) at) (records l)) (omega arith)
 
   pub granted_reaped : {l : Ledger C} {closed life : ℕ} {rs : List (Numbered (Standing C))} (n : ℕ) → AreReaped l closed life 0 rs → AreReaped l closed life n (with_approvals false n rs)
   granted_reaped {rs = rs} n s = omega (arith, s, approves false n rs)

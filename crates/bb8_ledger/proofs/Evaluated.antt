@@ -1,7 +1,9 @@
 -- Which row of the step table an answer is, as a function that computes: so a worked row is settled
 -- by evaluation.
-use Rattle.bb8_ledger.proofs.Words.{◌≡◌, ◌≢◌, ℕ, suc, ◌+◌, ◌-◌, ◌<◌, ◌≤◌, min, max, Bool, true, false, eqb, ltb, leb, cond, List, [], ◌∷◌, Option, Some, None, is_some, option_map, slice_get, length, refl, ap, sym, subst, eqb-true, eqb-false, ltb-true, leb-true, leb-false, Grant, Standing, Guarded, Held, Numbered, one, after_end, Act, Begin, Try, CheckedOk, CheckedErr, GiveUp, PutBack, Detach, Evict, Fill, Ask, Claim, Opened, Failed, Add, Reap, Retire, Join, Leave, Close, Look, Answer, Begun, Memory, Exhausted, Served, Taken, Kept, Closed, GaveUp, Granted, Ended, Entered, Late, GivenBack, Added, Broken, NoCapacity, Withheld, Reaped, Joined, Left, Looked, Unfit, with_ended, Ledger, Later, start, latest, records, handles, next, next_get, conns, approved, conns_of, approved_of, idle_of, alive, idle_count, first_idle, oldest_waiter, unclaimed, peak, get_peak, get_of, at_place, figures, opening_with, asks_check, gets_stand, holds, is_unnotified, is_notified, Row, begins, begin_refused, begin_exhausted, waits_on, serves, takes_out, waits, checks, check_fails, gives_up, gives_up_kept, gives_up_closed, keeps, returns_closed, detaches, evicts, fills, asks_for, unprovided, claims, claim_ended, opens, opens_late, fails, add_broken, add_full, add_exhausted, add_refused, adds, reap_ended, reaps, retire_ended, retires, retired_at, joins, join_exhausted, leaves, shuts, looks, IsWant, fits, with_record, closes, comes_late, reaped_at, outlived_at, idled_at, leave_count, IsGranted, IsNoGrant, numbers_left, due, lacking, Settings, is_lawful, Figures, RowLine, AreAllowed, IsRow, first_waits, IsBackOff, IsMostWaits, sum_of_waits, end_of_numbers, most_handles, Waiting, Claimed, after, is_doubtful, arith, nat_tests}
+use Rattle.bb8_ledger.proofs.Words.{◌≡◌, ◌≢◌, ℕ, suc, ◌+◌, ◌-◌, ◌<◌, ◌≤◌, min, max, Bool, true, false, eqb, ltb, leb, cond, List, [], ◌∷◌, Option, Some, None, is_some, option_map, option_and_then, map, and_right, IsLegal, slice_get, length, refl, ap, sym, subst, eqb-true, eqb-false, ltb-true, leb-true, leb-false, Grant, Standing, Guarded, Held, Numbered, one, after_end, Act, Begin, Try, CheckedOk, CheckedErr, GiveUp, PutBack, Detach, Evict, Fill, Ask, Claim, Opened, Failed, Add, Reap, Retire, Join, Leave, Close, Look, Answer, Begun, Memory, Exhausted, Served, Taken, Kept, Closed, GaveUp, Granted, Ended, Entered, Late, GivenBack, Added, Broken, NoCapacity, Withheld, Reaped, Joined, Left, Looked, Unfit, with_ended, Ledger, Later, start, latest, records, handles, next, next_get, conns, approved, conns_of, approved_of, idle_of, alive, idle_count, first_idle, oldest_waiter, unclaimed, peak, get_peak, get_of, at_place, figures, opening_with, asks_check, gets_stand, holds, is_unnotified, is_notified, Row, begins, begin_refused, begin_exhausted, waits_on, serves, takes_out, waits, checks, check_fails, gives_up, gives_up_kept, gives_up_closed, keeps, returns_closed, detaches, evicts, fills, asks_for, unprovided, claims, claim_ended, opens, opens_late, fails, add_broken, add_full, add_exhausted, add_refused, adds, reap_ended, reaps, retire_ended, retires, retired_at, joins, join_exhausted, leaves, shuts, looks, IsWant, fits, with_record, closes, comes_late, reaped_at, outlived_at, idled_at, leave_count, IsGranted, IsNoGrant, numbers_left, due, lacking, is_lawful, RowLine, WorkedRow, ledger_of, IsRow, first_waits, IsBackOff, IsMostWaits, sum_of_waits, end_of_numbers, most_handles, Waiting, Claimed, after, is_doubtful, arith, nat_tests}
 use Rattle.std.specs.Bool.{MatchBool}
+use Rattle.std.specs.List.{All, list_all}
+use Rattle.std.proofs.lemmas.List.Elements.{All-nil, All-cons}
 
 -- ---- tests, and what follows from their results
 
@@ -62,10 +64,6 @@ moved m k P o = when_same m k (λ e. option_map (λ (p : P k). subst P (sym e) p
 abbrev matched : {P Q : Type 0} (b : Bool) → Option P → Option Q → Option (MatchBool b P Q)
 matched true p q = p
 matched false p q = q
-
-abbrev pair : {P Q : Type 0} → Option P → Option Q → Option (P × Q)
-pair (Some p) (Some q) = Some (p, q)
-pair _ _ = None
 
 -- the answer says that the event does not fit
 abbrev unfit : (a : Answer) → Option (a ≡ Unfit)
@@ -147,16 +145,22 @@ module _ {C : Type 0} where
   row_of l at Look (Looked m open_now) = when_same m (max (latest l) at) (λ is. when_agree open_now (ltb 0 (handles l)) (λ same. Some (looks is same)))
   row_of l at _ _ = None
 
--- that the whole table allows each answer of a row
-abbrev pub all_allowed : (l : Ledger ℕ) (lines : List RowLine) → Option (AreAllowed l lines)
-all_allowed l [] = Some tt
-all_allowed l (t ∷ lines) = pair (matched (fits l t.act) (row_of l t.at t.act t.answer) (unfit t.answer)) (all_allowed (Later l t.at t.act t.answer) lines)
+-- that the step table allows each result of these lines, after a legal ledger
+abbrev legal_after : (l : Ledger ℕ) (lines : List RowLine) → IsLegal l → Option (IsLegal (after l lines))
+legal_after l [] legal = Some legal
+legal_after l (t ∷ lines) legal =
+    option_and_then (λ allowed. legal_after (Later l t.at t.act t.answer) lines (legal, allowed)) (matched (fits l t.act) (row_of l t.at t.act t.answer) (unfit t.answer))
 
--- a worked row, by evaluation
-pub by_evaluation : {config : Settings} {first first_get : ℕ} {lines : List RowLine} {shown : Figures} → is_lawful config ≡ true
-    → is_some (all_allowed (opening_with config first first_get) lines) ≡ true → figures (after (opening_with config first first_get) lines) ≡ shown
-    → IsRow config first first_get lines shown
-by_evaluation {config} {first} {first_get} {lines} lawful allowed last = grind (arith, nat_tests)
+-- that a row has a lawful configuration, and allowed results
+abbrev pub legal_row : (row : WorkedRow) → Option (IsLegal (ledger_of row))
+legal_row row = when (is_lawful row.config) (λ lawful. legal_after (opening_with row.config row.first row.first_get) row.lines lawful)
+
+-- worked rows, by evaluation
+pub by_evaluation : (rows : List WorkedRow) → list_all (λ row. is_some (legal_row row)) rows ≡ true → map (λ row. figures (ledger_of row)) rows ≡ map (λ row. row.shown) rows → All IsRow rows
+by_evaluation [] legal last = All-nil IsRow
+by_evaluation (row ∷ rows) legal last =
+    let both = and_right (is_some (legal_row row)) _ legal in
+    All-cons IsRow row rows (record { legal = found (legal_row row) both.0; last = cc }) (by_evaluation rows both.1 cc)
 
 -- the waits of a back-off, by evaluation
 abbrev most_waits : (timeout n : ℕ) → Option (IsMostWaits timeout n)

@@ -1,6 +1,6 @@
 -- What one event does to the gets, where a get that was not in line ends or moves to a place where
 -- it does not wait.
-use Rattle.bb8_ledger.proofs.Words.{length-append, ◌≤◌, max, ◌≡◌, ℕ, suc, ◌+◌, ◌-◌, min, Bool, true, false, cond, eqb, List, [], ◌∷◌, ◌++◌, length, Option, Some, None, is_some, slice_get, option_and_then, refl, sym, ap, ◌∙◌, arith, GetPlace, Active, Holding, Getting, Numbered, at_number, update, in_order, one, standing_at, after_end, Ledger, start, position, latest, gets, alive, notified, unnotified, unnotified_at, oldest_waiter, get_of, tally_gets, alive_of, new_get, get_at_place, at_wait, with_notice, holds, held_in, gets_stand, is_notified, is_unnotified, is_trying, Before, and_right, Waiting, nat_tests}
+use Rattle.bb8_ledger.proofs.Words.{length-append, ◌≤◌, max, ◌≡◌, ℕ, suc, ◌+◌, ◌-◌, min, Bool, true, false, cond, eqb, List, [], ◌∷◌, ◌++◌, length, Option, Some, None, is_some, slice_get, option_and_then, refl, sym, ap, ◌∙◌, arith, GetPlace, Active, Holding, Getting, Numbered, at_number, update, in_order, one, standing_at, after_end, Ledger, start, position, latest, gets, alive, notified, unnotified, unnotified_at, oldest_waiter, get_of, tally_gets, alive_of, new_get, get_at_place, at_wait, with_notice, holds, held_in, gets_stand, is_notified, is_unnotified, is_trying, Before, and_right, nat_tests}
 use Rattle.bb8_types.proofs.Numbered as numbered
 use Rattle.bb8_ledger.proofs.Facts.{waited_before}
 use Rattle.bb8_ledger.proofs.Waiters.{not_waiting, one_few, waits_on_same, begins_counted, waiters_few, IsGivenUp, given_up_counted, alive_counted, begins_alive, getting_is, is_waiting, changed_tally, notify_length, notify_alive, notify_counted, same_line, InLine, line_later, line_left, line_notified}
@@ -24,8 +24,7 @@ told_are first m n gs before is = grind (arith, notify_counted first m n gs befo
 
 -- a get that is alive
 pub alive_get : (o : Option Getting) → is_some o ≡ true → (st : Getting) × (o ≡ Some st)
-alive_get None h = cc
-alive_get (Some st) h = (st, refl)
+alive_get o h = grind (arith, nat_tests)
 
 -- the get that holds a connection
 pub holding_is : (o : Option Getting) (k : ℕ) → holds o ≡ Some k → (s : Getting) × (o ≡ Some s) × (s.place ≡ Holding k)
@@ -130,12 +129,7 @@ module _ {C : Type 0} where
 
   -- a get begins
   pub begun_sums : (l : Ledger C) → GetsAre (gets l ++ new_get ∷ []) (alive l + 1) (unnotified l + 0) (notified l + 0) (length (gets l) + 1)
-  begun_sums l = record {
-    alive_are = numbered.tally-append (λ x. is_some x.standing) (gets l) new_get;
-    unnotified_are = numbered.tally-append (λ x. gets_stand is_unnotified x.standing) (gets l) new_get;
-    notified_are = numbered.tally-append (λ x. gets_stand is_notified x.standing) (gets l) new_get;
-    many_are = length-append (gets l) (new_get ∷ []);
-  }
+  begun_sums l = grind (arith, nat_tests, numbered.tally-append, length-append)
 
   -- the gets once one of them has waited
   abbrev waited_gets : Ledger C → ℕ → ℕ → List (Numbered Getting)
@@ -227,8 +221,7 @@ taken_holds first g j gs q s there = grind (arith, nat_tests, numbered.standing_
 -- a get that holds nothing is notified, or none
 pub told_holds : (first : ℕ) (n : Option ℕ) (gs : List (Numbered Getting)) (q : ℕ) → ((g : ℕ) → n ≡ Some g → held_at first gs g ≡ None)
     → held_at first (with_notice first n gs) q ≡ held_at first gs q
-told_holds first None gs q quiet = refl
-told_holds first (Some g) gs q quiet = grind (arith, nat_tests, dropped_holds first g (get_at_place (Waiting true)) gs q, put_nothing (Waiting true), numbered.same_or_not q g)
+told_holds first n gs q quiet = grind (arith, nat_tests, dropped_holds, put_nothing, numbered.same_or_not)
 
 -- and so it is once a get has changed that holds nothing then
 pub told_dropped : (first g : ℕ) (f : Numbered Getting → Numbered Getting) (n : Option ℕ) (gs : List (Numbered Getting)) (q : ℕ)

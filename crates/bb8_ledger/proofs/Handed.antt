@@ -1,9 +1,9 @@
 -- If each notification is handed off, waiters are served in order.
-use Rattle.bb8_ledger.proofs.Words.{eq-eqb, ◌≡◌, ◌≢◌, ◌⊎◌, ℕ, suc, ◌+◌, ◌-◌, ◌<◌, ◌≤◌, min, Bool, true, false, cond, eqb, List, [], ◌∷◌, length, Option, Some, None, is_some, slice_get, option_map, option_and_then, refl, sym, ap, ◌∙◌, arith, subst, inl, inr, IfSome, GetPlace, Holding, Waiting, Getting, Place, Idle, Standing, Numbered, at, at_number, update, in_order, numbers, tally, one, standing_at, after_end, gets_stand, stands, is_unnotified, is_notified, is_trying, is_idle, get_with_place, unnotified_at, get_at_place, with_notice, Act, Try, Answer, Served, Taken, Ledger, Later, start, position, records, gets, next, idle_count, notified, handles, conns, approved, first_idle, record_of, get_of, with_record, Row, begins, waits_on, serves, takes_out, waits, check_fails, gives_up, gives_up_kept, gives_up_closed, keeps, returns_closed, detaches, evicts, opens, adds, IsLegal, fits, and_right, standing_is, Guarded, Allowed, nat_tests}
+use Rattle.bb8_ledger.proofs.Words.{eq-eqb, ◌≡◌, ◌≢◌, ◌⊎◌, ℕ, suc, ◌+◌, ◌-◌, ◌<◌, ◌≤◌, min, Bool, true, false, cond, eqb, List, [], ◌∷◌, length, Option, Some, None, is_some, slice_get, option_and_then, refl, sym, ap, ◌∙◌, arith, subst, inl, inr, IfSome, GetPlace, Holding, Waiting, Getting, Place, Idle, Standing, Numbered, at, at_number, update, in_order, numbers, tally, one, standing_at, after_end, gets_stand, stands, is_unnotified, is_notified, is_trying, is_idle, unnotified_at, get_at_place, with_notice, Act, Try, Answer, Served, Taken, Ledger, Later, start, position, records, gets, next, idle_count, notified, handles, conns, approved, first_idle, record_of, get_of, with_record, Row, begins, waits_on, serves, takes_out, waits, check_fails, gives_up, gives_up_kept, gives_up_closed, keeps, returns_closed, detaches, evicts, opens, adds, IsLegal, fits, and_right, standing_is, Guarded, Allowed, nat_tests}
 use Rattle.bb8_ledger.specs.Ledger.{numbered_get}
-use Rattle.bb8_ledger.specs.Limits.{WaitsSince}
+use Rattle.bb8_ledger.specs.Limits.{AtEach, WaitsSince}
 use Rattle.bb8_ledger.specs.Answers as answers
-use Rattle.bb8_ledger.specs.Handed.{notified_by, brought_by, just_notified, just_brought, waiters, notified_at, oldest_notified, due_try, HandsOver, IsFirst, past, served_up_to, AllWaitBehind, GoesWith, TriesInTurn, AlwaysInTurn, unasked, KeepsOrder, TriesWhenNotified, IsOrderly, IsPrompt}
+use Rattle.bb8_ledger.specs.Handed.{notified_by, brought_by, just_notified, just_brought, waiters, notified_at, oldest_notified, due_try, HandsOver, IsFirst, past, served_up_to, AllWaitBehind, GoesWith, TriesInTurn, unasked, KeepsOrder, TriesWhenNotified, IsOrderly, IsPrompt}
 use Rattle.bb8_ledger.specs.Limits.{lost}
 use Rattle.bb8_ledger.specs.Handed.{missed}
 use Rattle.bb8_types.proofs.Numbered as numbered
@@ -44,18 +44,20 @@ passes_at test o = gets_stand test (option_and_then (λ (x : Numbered Getting). 
 told_stands : (first m g : ℕ) (gs : List (Numbered Getting)) → slice_get (in_order unnotified_at first gs m) 0 ≡ Some g
     → gets_stand is_notified (standing_at first (update first g (get_at_place (Waiting true)) gs) g) ≡ true
 told_stands first m g gs is =
-    let t : (x : Numbered Getting) × (at first gs g ≡ Some x) × (p : ℕ) × (p < m) × (unnotified_at p x ≡ true) = numbered.in_order_member unnotified_at gs first m 0 g is in
-    let s = getting_is is_unnotified t.0.standing (and_right (gets_stand is_unnotified t.0.standing) _ t.4).0 in
-    updated_shows (passes_at is_notified) gs first g g (get_at_place (Waiting true)) true
-    (ap (λ (o : Option (Numbered Getting)). passes_at is_notified (option_map (get_at_place (Waiting true)) o)) t.1
-    ∙ ap (λ (o : Option Getting). gets_stand is_notified (option_map (get_with_place (Waiting true)) o)) s.1)
-    ∙ ap (λ (b : Bool). cond b true (passes_at is_notified (at first gs g))) (numbered.eqb_self g)
+    grind (
+      arith,
+      nat_tests,
+      numbered.in_order_member unnotified_at gs first m 0 g is,
+      getting_is,
+      and_right,
+      updated_shows (passes_at is_notified) gs first g g (get_at_place (Waiting true)) true,
+      numbered.eqb_self,
+    )
 
 -- the oldest waiter is notified once a result named it
 told_is : (first m : ℕ) (n : Option ℕ) (gs : List (Numbered Getting)) (g : ℕ) → n ≡ slice_get (in_order unnotified_at first gs m) 0 → n ≡ Some g
     → gets_stand is_notified (standing_at first (with_notice first n gs) g) ≡ true
-told_is first m None gs g is told = cc
-told_is first m (Some h) gs g is told = grind (arith, nat_tests, told_stands first m h gs (sym is))
+told_is first m n gs g is told = grind (arith, nat_tests, told_stands)
 
 -- who is notified may try
 notified_tries : (o : Option Getting) → gets_stand is_notified o ≡ true → gets_stand is_trying o ≡ true
@@ -65,8 +67,7 @@ module _ {C : Type 0} where
   -- ---- which connection became idle
 
   idle_by_place : (c : C) (o : Option (Standing C)) → place_of o ≡ Some (Idle c) → stands is_idle o ≡ true
-  idle_by_place c None e = cc
-  idle_by_place c (Some s) e = let is : s.place ≡ Idle c = cc in ap is_idle is
+  idle_by_place c o e = grind (arith, nat_tests)
 
   -- whether the record of a number is idle
   abbrev idles_at : Option (Numbered (Standing C)) → Bool
@@ -75,10 +76,7 @@ module _ {C : Type 0} where
   turned_idle : (l : Ledger C) (k j : ℕ) (p : Place C) (c : C) (f : Numbered (Standing C) → Numbered (Standing C)) → Turns l k p (Some (Idle c)) f → k ≡ j
       → stands is_idle (standing_at (start l).first (with_record l k f) j) ≡ true
   turned_idle l k j p c f t same =
-      let m = numbered.standing_found (records l) (start l).first k t.standing t.was in
-      subst (λ (q : ℕ). stands is_idle (standing_at (start l).first (with_record l k f) q) ≡ true) same (updated_shows idles_at (records l) (start l).first k k f true
-      (ap (λ (o : Option (Numbered (Standing C))). idles_at (option_map f o)) m.1 ∙ idle_by_place c (f m.0).standing (t.to m.0 m.2))
-      ∙ ap (λ (b : Bool). cond b true (idles_at (at_number (start l).first (records l) k))) (numbered.eqb_self k))
+      grind (arith, nat_tests, numbered.standing_found (records l) (start l).first k t.standing t.was, updated_shows idles_at (records l) (start l).first k k f true, idle_by_place, numbered.eqb_self)
 
   -- the connection that an event brought is idle
   row_brought : (l : Ledger C) (at : ℕ) (e : Act C) (a : Answer) (j : ℕ) → IsLegal l → fits l e ≡ true → Row l at e a → brought_by a ≡ Some j → stands is_idle (record_of (Later l at e a) j) ≡ true
@@ -101,10 +99,7 @@ module _ {C : Type 0} where
 
   -- the idle connection that goes out is the one that was brought, where just that is idle
   goes_out : (l : Ledger C) (k : ℕ) → first_idle l ≡ Some k → (x : Numbered (Standing C)) × (at_number (start l).first (records l) k ≡ Some x) × (stands is_idle x.standing ≡ true)
-  goes_out l k first =
-      let t = idle_turns l k Guarded first in
-      let m = numbered.standing_found (records l) (start l).first k t.1.standing t.1.was in
-      (m.0, m.1, ap (stands is_idle) m.2 ∙ ap is_idle t.1.from)
+  goes_out l k first = grind (arith, nat_tests, idle_turns l k Guarded first, numbered.standing_found)
 
   -- a record that is idle
   idle_found : (l : Ledger C) (k : ℕ) → stands is_idle (record_of l k) ≡ true → (x : Numbered (Standing C)) × (at_number (start l).first (records l) k ≡ Some x) × (stands is_idle x.standing ≡ true)
@@ -189,13 +184,7 @@ module _ {C : Type 0} where
   IsOf o e = IfSome o (λ g. e ≡ Try g)
 
   met : (l : Ledger C) (e : Act C) → IsLegal l → IsOf (due_try l) e → IsMet l e
-  met l e legal h = go (due_try l) refl h
-    where
-      go : (o : Option ℕ) → due_try l ≡ o → IsOf o e → IsMet l e
-      go None is same = omega (arith, none_due l legal is)
-      go (Some g) is same =
-          let on = (oldest_first l g legal (due_is l g is).1).0 in
-          omega (arith, ap (notified_in l) same ∙ ap one on)
+  met l e legal h = grind (arith, nat_tests, none_due, oldest_first, due_is)
 
   -- ---- what a history with hand-off keeps
 
@@ -240,7 +229,7 @@ module _ {C : Type 0} where
   went_out : (l : Ledger C) (k : ℕ) → IsLegal l → IsHanded l → first_idle l ≡ Some k → 0 < waiters l → just_brought l ≡ Some k
   went_out l k legal i first some = that_one l k (just_brought l) first (omega (arith, i.settled, some)) (all_brought l legal)
 
-  row_in_turn : (l : Ledger C) (at : ℕ) (e : Act C) (a : Answer) → IsLegal l → fits l e ≡ true → Row l at e a → IsHanded l → IsOf (due_try l) e → TriesInTurn l e a
+  row_in_turn : (l : Ledger C) (at : ℕ) (e : Act C) (a : Answer) → IsLegal l → fits l e ≡ true → Row l at e a → IsHanded l → IsOf (due_try l) e → TriesInTurn l at e a
   row_in_turn l at e _ legal f (waits_on {g} on nothing) i h =
       let m = found is_unnotified l g on in
       omega (arith, met l (Try g) legal h, counted l g m.0.position (m.0, m.1, refl, inr m.2), ap one (untold (get_of l g) on))
@@ -249,8 +238,8 @@ module _ {C : Type 0} where
   row_in_turn l at e _ legal f (waits {g} not_waiting none granted) i h = idle_none l none
   row_in_turn l at e _ legal f _ i h = tt
 
-  always_in_turn : (l : Ledger C) → IsLegal l → IfHanded AlwaysInTurn l
-  always_in_turn = grind (arith, nat_tests, each_legal (IfHanded AlwaysInTurn), fitted, row_in_turn, all_handed)
+  always_in_turn : (l : Ledger C) → IsLegal l → IfHanded (AtEach TriesInTurn) l
+  always_in_turn = grind (arith, nat_tests, each_legal (IfHanded (AtEach TriesInTurn)), fitted, row_in_turn, all_handed)
 
   -- ---- the order of those that go out
 
@@ -289,7 +278,7 @@ module _ {C : Type 0} where
         up_to = is ∙ ap (λ (b : Bool). cond b (suc x.position) (served_up_to l)) was;
       })
 
-  row_goes_out : (l : Ledger C) (at : ℕ) (e : Act C) (a : Answer) → IsLegal l → fits l e ≡ true → Row l at e a → TriesInTurn l e a → (served_up_to (Later l at e a) ≡ served_up_to l) ⊎ GoesOut l at e a
+  row_goes_out : (l : Ledger C) (at : ℕ) (e : Act C) (a : Answer) → IsLegal l → fits l e ≡ true → Row l at e a → TriesInTurn l at e a → (served_up_to (Later l at e a) ≡ served_up_to l) ⊎ GoesOut l at e a
   row_goes_out l at _ _ legal f (serves {g} {k} {grant} not_waiting off first want) turn = went l at (Try g) (Served k grant) g after_end legal f not_waiting turn.0 refl refl (λ z. refl)
   row_goes_out l at _ _ legal f (takes_out {g} {k} {grant} not_waiting on first want) turn =
       went l at (Try g) (Taken k grant) g (get_at_place (Holding k)) legal f not_waiting turn.0 refl refl (put_off (Holding k) refl)
@@ -299,7 +288,7 @@ module _ {C : Type 0} where
   abbrev BehindAll : Ledger C → Type 0
   BehindAll l = AllWaitBehind l × (served_up_to l ≤ position l)
 
-  row_behind : (l : Ledger C) (at : ℕ) (e : Act C) (a : Answer) → IsLegal l → fits l e ≡ true → Row l at e a → TriesInTurn l e a → BehindAll l → BehindAll (Later l at e a)
+  row_behind : (l : Ledger C) (at : ℕ) (e : Act C) (a : Answer) → IsLegal l → fits l e ≡ true → Row l at e a → TriesInTurn l at e a → BehindAll l → BehindAll (Later l at e a)
   row_behind l at e a legal f row turn before = go (row_goes_out l at e a legal f row turn)
     where
       go : ((served_up_to (Later l at e a) ≡ served_up_to l) ⊎ GoesOut l at e a) → BehindAll (Later l at e a)
@@ -345,28 +334,7 @@ module _ {C : Type 0} where
 
   -- In a history with hand-off waiters are served in order.
   hands_in_order : (l : Ledger C) → IsLegal l → IfHanded KeepsOrder l
-  hands_in_order l legal h =
-      let i = all_handed l legal h in
-      let due = due_one l legal in
-      let one_at_most = one_few (is_some (just_brought l)) in
-      record {
-        settled = elim (either_none (waiters l) (idle_count l - one (is_some (just_brought l))) i.settled) [
-          | inl e ↦ inl e
-          | inr e ↦ elim (numbered.same_or_not (waiters l) 0) [
-            | inl t ↦ inl t.1
-            | inr t ↦ inr (omega (arith, e, t.1, due, one_at_most, (all_serve l legal).served))
-          ]
-        ];
-        provided = λ open_now.
-            elim (either_none (waiters l - (approved l + idle_count l + missed l)) ((start l).config.max_size - (conns l + approved l + missed l + unasked l)) (provided_open l open_now i.provided)) [
-              | inl e ↦ inl (omega (arith, e))
-              | inr e ↦ inr (omega (arith, e))
-            ];
-        in_turn = always_in_turn l legal h;
-        behind = (all_behind l legal h).0;
-        few_lost = omega (arith, i.few);
-        few_told = omega (arith, i.few, due);
-      }
+  hands_in_order l legal h = grind (arith, nat_tests, all_handed l legal h, due_one l legal, one_few, either_none, all_serve l legal, provided_open, always_in_turn l legal h, all_behind l legal h)
 
   -- ---- where each get that is notified tries at once
 
@@ -496,8 +464,7 @@ module _ {C : Type 0} where
   prompt_then l at e a allowed none p = grind (arith, nat_tests, prompt_row l)
 
   tells_nobody : (l : Ledger C) (at g : ℕ) (b : Answer) → Row l at (Try g) b → notified_by b ≡ None
-  tells_nobody l at g _ (waits_on on nothing) = refl
-  tells_nobody l at g _ _ = refl
+  tells_nobody l at g b row = grind (arith, nat_tests)
 
   -- and where it notified a get, it is with the try of that get
   pub prompt_tried : (l : Ledger C) (at then g : ℕ) (e : Act C) (a b : Answer) → Row l at e a → notified_by a ≡ Some g → Row (Later l at e a) then (Try g) b

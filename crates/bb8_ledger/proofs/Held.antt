@@ -1,9 +1,9 @@
 -- Who holds what: what a get holds is out in its hands and its last fitting try took it, and what
 -- is checked out is with a guard.
-use Rattle.bb8_ledger.proofs.Words.{arith, nat_tests, ◌≡◌, ℕ, max, Bool, true, false, cond, not, eqb, ◌&&◌, ◌||◌, Option, Some, None, is_some, List, option_map, refl, sym, ap, ◌∙◌, subst, Grant, Idle, Held, Guarded, Standing, Holder, Guard, Get, Active, Act, Try, PutBack, Detach, Evict, Leave, Answer, Served, Taken, Kept, Closed, Left, Numbered, update, after_end, Ledger, Later, start, position, latest, records, gets, record_of, get_of, at_place, entry, at_entry, with_approvals, get_at_place, at_wait, with_notice, oldest_waiter, holds, stands, gets_stand, is_held_by, is_trying, is_notified, Row, begins, waits_on, serves, takes_out, waits, checks, check_fails, gives_up, gives_up_kept, gives_up_closed, keeps, returns_closed, detaches, evicts, fills, asks_for, claims, opens, opens_late, fails, adds, reaps, retires, leaves, shuts, IsLegal, fits, agree, and_right, HasTaken, last_try, ServesChecked, NeverServesUnchecked, is_lent, ServesUnlent, NeverServesTwice, IfSome, get_in}
+use Rattle.bb8_ledger.proofs.Words.{arith, nat_tests, ◌≡◌, ℕ, max, Bool, true, false, cond, not, eqb, ◌&&◌, ◌||◌, Option, Some, None, is_some, List, option_map, refl, sym, ap, ◌∙◌, Grant, Idle, Held, Guarded, Standing, Holder, Guard, Get, Active, Act, Try, PutBack, Detach, Evict, Leave, Answer, Served, Taken, Kept, Closed, Left, Numbered, update, after_end, Ledger, Later, start, position, latest, records, gets, record_of, get_of, at_place, entry, at_entry, with_approvals, get_at_place, at_wait, with_notice, oldest_waiter, holds, stands, gets_stand, is_held_by, is_trying, is_notified, Row, begins, waits_on, serves, takes_out, waits, checks, check_fails, gives_up, gives_up_kept, gives_up_closed, keeps, returns_closed, detaches, evicts, fills, asks_for, claims, opens, opens_late, fails, adds, reaps, retires, leaves, shuts, IsLegal, fits, agree, and_right, HasTaken, last_try, ServesChecked, is_lent, ServesUnlent, IfSome, get_in, retiring, reaped_at, retired_at}
 use Rattle.bb8_types.proofs.Numbered as numbered
 use Rattle.bb8_ledger.proofs.Waiters.{getting_is}
-use Rattle.bb8_ledger.proofs.Effects.{each_legal, place_of, Turns, to_place, returns_turn, closes_turn, evicts_turn, opens_turn, ends_turn, held_turns, idle_turns, unclaimed_turns, holder_in, holder_at, holder, turned_holder, turned_from, kept_holder, appended_same, granted_holder, reaped_holder, retired_holder, left_holder}
+use Rattle.bb8_ledger.proofs.Effects.{each_legal, place_of, Turns, to_place, returns_turn, closes_turn, evicts_turn, opens_turn, ends_turn, held_turns, idle_turns, unclaimed_turns, holder_in, holder_at, holder, turned_holder, turned_from, kept_holder, appended_same, granted_holder, ended_holder, reaped_idle, left_holder}
 use Rattle.bb8_ledger.proofs.GetEffects.{held_at, dropped_holds, taken_holds, told_holds, told_dropped, begun_holds, put_nothing, waits_nothing, trying_quiet, oldest_quiet}
 
 -- whether it is this number
@@ -15,8 +15,7 @@ it_is : (k : ℕ) (o : Option ℕ) → is_it k o ≡ true → o ≡ Some k
 it_is k o e = grind (arith, nat_tests)
 
 if_it : (P : ℕ → Type 0) (o : Option ℕ) → IfSome o P → (k : ℕ) → is_it k o ≡ true → P k
-if_it P None h k e = cc
-if_it P (Some j) h k e = subst P (sym (numbered.tested k j e)) h
+if_it P o h k e = grind (arith, nat_tests)
 
 -- whether the get g has it
 abbrev has_get : ℕ → Option Holder → Bool
@@ -51,8 +50,7 @@ one_less : (b : Bool) (y : Option Holder) (x : Bool) → has_guard y ≡ x → h
 one_less b y x e = grind (arith, nat_tests)
 
 as_many : (b : Bool) (to from y : Option Holder) → (b ≡ true → y ≡ from) → has_guard from ≡ has_guard to → has_guard (cond b to y) ≡ has_guard y
-as_many true to from y is same = sym same ∙ sym (ap has_guard (is refl))
-as_many false to from y is same = refl
+as_many b to from y is same = grind (arith, nat_tests)
 
 -- the event's get tried
 tried : (b : Bool) (a : Answer) (o : Option ℕ) (last : Option Answer) (k : ℕ) → (o ≡ Some k → (grant : Grant) × (last ≡ Some (Taken k grant)))
@@ -104,8 +102,7 @@ module _ {C : Type 0} where
   AllHold l = (g k : ℕ) → is_it k (holds (get_of l g)) ≡ has_get g (holder_of l k)
 
   held_by : (g : ℕ) (o : Option (Standing C)) → stands (is_held_by g) o ≡ has_get g (holder_in (place_of o))
-  held_by g None = refl
-  held_by g (Some s) = grind (arith, nat_tests)
+  held_by g o = grind (arith, nat_tests)
 
   -- the connection of a get that holds it is out in its hands
   in_hand : (l : Ledger C) (g k : ℕ) → AllHold l → holds (get_of l g) ≡ Some k → stands (is_held_by g) (record_of l k) ≡ true
@@ -195,8 +192,20 @@ module _ {C : Type 0} where
   row_hands l at _ _ h f (fails {k = j}) = record { gets = λ g. refl; had = tt; conns = λ k. kept_holder k (ends_turn l j f) refl refl; from = tt }
   row_hands l at _ _ h f (adds {c} {n} room few is who) =
       record { gets = told l n who; had = tt; conns = λ k. appended_same holder (records l) (start l).first k (entry c (max (latest l) at) (max (latest l) at) (position l)) refl; from = tt }
-  row_hands l at _ _ h f (reaps {grant} open_now closed_is by_idle_is by_life_is want) = grind (arith, nat_tests, granted l false grant.count, reaped_holder l)
-  row_hands l at _ _ h f (retires {grant} open_now closed_is want) = grind (arith, nat_tests, granted l false grant.count, retired_holder l)
+  row_hands l at _ _ h f (reaps {grant} open_now closed_is by_idle_is by_life_is want) =
+      record {
+        gets = λ g. refl;
+        had = tt;
+        conns = λ k. granted l false grant.count _ k ∙ ended_holder (start l).first (reaped_at l at) (records l) k (reaped_idle (start l) (position l) (max (latest l) at) (records l));
+        from = tt;
+      }
+  row_hands l at _ _ h f (retires {grant} open_now closed_is want) =
+      record {
+        gets = λ g. refl;
+        had = tt;
+        conns = λ k. granted l false grant.count _ k ∙ ended_holder (start l).first (retired_at l at) (records l) k (reaped_idle (retiring (start l)) (position l) (max (latest l) at) (records l));
+        from = tt;
+      }
   row_hands l at _ _ h f (leaves {n} is) = record { gets = λ g. refl; had = tt; conns = left l at n; from = tt }
   row_hands l at _ _ h f (shuts {n} is) = record { gets = λ g. refl; had = tt; conns = λ k. left_holder (start l).first k (records l); from = tt }
   row_hands l at _ _ h f _ = record { gets = λ g. refl; had = tt; conns = λ k. refl; from = tt }
@@ -242,15 +251,9 @@ module _ {C : Type 0} where
   lent_right : (l : Ledger C) → IsLegal l → IsLentRight l
   lent_right = each_legal IsLentRight (λ s lawful k. refl) (λ l at e h. h) (λ l at e a legal f row h. row_lent l at e a row (hands l at e a legal f row) h)
 
-  row_unlent : (l : Ledger C) (at : ℕ) (e : Act C) (a : Answer) → IsLegal l → Row l at e a → Hands l at e a → ServesUnlent l a
-  row_unlent l at _ _ legal (serves {k} anew off first want) x = sym (lent_right l legal k) ∙ ap has_guard x.from
-  row_unlent l at _ _ legal (checks {k} holds_it nothing) x = sym (lent_right l legal k) ∙ ap has_guard x.from
-  row_unlent l at _ _ legal _ x = tt
-
   -- no connection is served again before its guard gave it back
-  pub never_twice : (l : Ledger C) → IsLegal l → NeverServesTwice l
-  never_twice = each_legal NeverServesTwice (λ s lawful. tt) (λ l at e before. (before, tt))
-      (λ l at e a legal f row before. (before, row_unlent l at e a legal row (hands l at e a legal f row)))
+  pub row_unlent : (l : Ledger C) (at : ℕ) (e : Act C) (a : Answer) → IsLegal l → fits l e ≡ true → Row l at e a → ServesUnlent l at e a
+  row_unlent l at e a legal f row = grind (arith, nat_tests, lent_right l legal, hands l at e a legal f row)
 
   -- ---- what a get holds its last fitting try took
 
@@ -267,14 +270,9 @@ module _ {C : Type 0} where
   all_taken : (l : Ledger C) → IsLegal l → AllTaken l
   all_taken = each_legal AllTaken (λ s lawful g k now. cc) (λ l at e h. h) (λ l at e a legal f row h. row_taken l at e a row (hands l at e a legal f row) h)
 
-  row_checked : (l : Ledger C) (at : ℕ) (e : Act C) (a : Answer) → IsLegal l → Row l at e a → ServesChecked l at e a
-  row_checked l at _ _ legal (serves anew off first want) = λ on. absurd (let clash : false ≡ true = sym off ∙ on in cc)
-  row_checked l at _ _ legal (checks {g} {k} holds_it nothing) = λ on. (g, refl, all_taken l legal g k holds_it)
-  row_checked l at _ _ legal _ = tt
-
   -- with the check on, nothing is served unchecked
-  pub never_unchecked : (l : Ledger C) → IsLegal l → NeverServesUnchecked l
-  never_unchecked = each_legal NeverServesUnchecked (λ s lawful. tt) (λ l at e before. (before, tt)) (λ l at e a legal f row before. (before, row_checked l at e a legal row))
+  pub row_checked : (l : Ledger C) (at : ℕ) (e : Act C) (a : Answer) → IsLegal l → Row l at e a → ServesChecked l at e a
+  row_checked l at e a legal row = grind (arith, nat_tests, all_taken)
 
   -- ---- the record that a get holds
 

@@ -1,18 +1,18 @@
 -- What holds of every legal ledger: the limits, the laws, and the promises to those who wait.
-use Rattle.bb8_ledger.proofs.Words.{Place, stands, one, ◌≡◌, ◌⊎◌, ℕ, suc, ◌+◌, ◌-◌, ◌<◌, ◌≤◌, max, min, true, Option, Some, sym, ap, ◌∙◌, inl, inr, arith, subst, Standing, Getting, is_lawful, Counts, Act, Try, Answer, after_end, Ledger, Opening, Later, start, position, latest, retired, records, gets, handles, next, next_get, conns, approved, idle_count, alive, notified, unnotified, oldest_waiter, record_of, get_of, with_notice, counts, is_conn, is_approval, gets_stand, is_unnotified, is_trying, Row, begins, waits_on, serves, takes_out, waits, checks, check_fails, gives_up, gives_up_kept, gives_up_closed, keeps, returns_closed, detaches, evicts, opens, adds, IsLegal, fits, KeepsLimits, KeepsLaws, KeepsPromises, NeverForgets, MayLower, lost, and_right, Claimed, asks_check, nat_tests}
+use Rattle.bb8_ledger.proofs.Words.{Place, stands, one, ◌≡◌, ℕ, suc, ◌+◌, ◌-◌, ◌<◌, ◌≤◌, max, min, true, Option, Some, sym, ap, ◌∙◌, inl, arith, subst, Standing, Getting, is_lawful, Counts, Act, Try, Answer, after_end, Ledger, Opening, Later, start, position, latest, retired, records, gets, handles, next, next_get, conns, approved, idle_count, alive, notified, unnotified, oldest_waiter, record_of, get_of, with_notice, counts, is_conn, is_approval, gets_stand, is_unnotified, is_trying, Row, begins, waits_on, serves, takes_out, waits, checks, check_fails, gives_up, gives_up_kept, gives_up_closed, keeps, returns_closed, detaches, evicts, opens, adds, IsLegal, fits, KeepsLimits, KeepsLaws, KeepsPromises, lost, and_right, Claimed, asks_check, nat_tests, AtEach, GivesNext, ServesUnlent, ServesChecked, MakesGood, ReapsOnce, Remembers}
 use Rattle.bb8_types.proofs.Numbered as numbered
 use Rattle.bb8_ledger.proofs.Facts.{conns_split, waited_before}
 use Rattle.bb8_ledger.proofs.Waiters.{changed_tally, getting_is, alive_counted, InLine, line_later, line_begun, line_begins, line_notified, line_given_up}
-use Rattle.bb8_ledger.proofs.Effects.{each_legal}
+use Rattle.bb8_ledger.proofs.Effects.{each_legal, at_each}
 use Rattle.bb8_ledger.proofs.GetEffects.{getting, handed_to, trier, trier_leaves, trier_holds, holder_ends, holder_turns, left_line, left_told_line}
-use Rattle.bb8_ledger.proofs.Sums.{Sums, Serves, row_sums, never_again}
+use Rattle.bb8_ledger.proofs.Sums.{Sums, Serves, row_sums}
 pub use Rattle.bb8_ledger.proofs.Sums.{due_few}
 pub use Rattle.bb8_ledger.proofs.GetEffects.{alive_get, waits_on_gets}
-use Rattle.bb8_ledger.proofs.Places.{always_keeps_places}
-use Rattle.bb8_ledger.proofs.Wants.{either_none, makes_good}
-use Rattle.bb8_ledger.proofs.Reaps.{never_reaps_twice}
+use Rattle.bb8_ledger.proofs.Places.{all_keep_places}
+use Rattle.bb8_ledger.proofs.Wants.{either_none, row_makes_good}
+use Rattle.bb8_ledger.proofs.Reaps.{row_once}
 use Rattle.bb8_ledger.proofs.Retired.{AreFrom, from, row_from, row_few}
-use Rattle.bb8_ledger.proofs.Held.{all_held, all_holding, never_twice, never_unchecked}
+use Rattle.bb8_ledger.proofs.Held.{all_held, all_holding, row_unlent, row_checked}
 
 -- The sizes and the statistics of a ledger fit together.
 pub record Fits (max_size conns approved next alive next_get : ℕ) (c : Counts) : Type 0 where
@@ -78,19 +78,20 @@ module _ {C : Type 0} where
   -- ---- the limits
 
   pub keeps_limits : (l : Ledger C) → IsLegal l → KeepsLimits l
-  keeps_limits l legal = record {
-    size = (all_fit l legal).size;
-    each = conns_split (records l);
-    held = λ g k. (all_held l legal g k, all_holding l legal g k);
-    served = elim (either_none (unnotified l) (idle_count l - notified l) (all_serve l legal).served) [ inl e ↦ inl e | inr e ↦ inr (omega arith) ];
-    none_idle = λ none. omega (arith, none, (all_serve l legal).none_idle);
-    unretired = λ k idle. from (retired l) (start l).first k (records l) (none_retired l legal).1 idle;
-  }
+  keeps_limits l legal = grind (arith, nat_tests, all_fit l, conns_split (records l), all_held, all_holding, either_none (unnotified l) (idle_count l - notified l), all_serve l, from, none_retired l)
 
   -- ---- the laws
 
   pub keeps_laws : (l : Ledger C) → IsLegal l → KeepsLaws l
-  keeps_laws l legal = grind (arith, nat_tests, never_again l legal, never_twice l legal, never_unchecked l legal, makes_good l legal, never_reaps_twice l legal, all_fit l legal)
+  keeps_laws l legal = record {
+    numbers = at_each GivesNext (λ l at e. omega arith) (λ l at e a legal f row. (row_sums l at e a legal f row).gives) l legal;
+    returned = at_each ServesUnlent (λ l at e. tt) row_unlent l legal;
+    checked = at_each ServesChecked (λ l at e. tt) (λ l at e a legal f row. row_checked l at e a legal row) l legal;
+    replenished = at_each (λ l at e a. MakesGood (Later l at e a) e a) (λ l at e. tt) (λ l at e a legal f row. row_makes_good l at e a row) l legal;
+    reaped = at_each ReapsOnce (λ l at e. tt) (λ l at e a legal f row. row_once l at e a legal row) l legal;
+    answered = (all_fit l legal).answered;
+    pending = omega (arith, all_fit l legal);
+  }
 
   -- where `test_after` is 0, as it is where nothing is set, all are to be checked, or none: as the
   -- check is on or off
@@ -133,18 +134,15 @@ module _ {C : Type 0} where
   all_in_line = grind (arith, nat_tests, each_legal AllInLine, line_later, row_in_line)
 
   -- an event forgets no notification
-  abbrev Remembers : Ledger C → ℕ → Act C → Answer → Type 0
-  Remembers l at e a = (notified l ≤ notified (Later l at e a)) ⊎ MayLower e (unnotified (Later l at e a))
-
   remembers : (l : Ledger C) (at : ℕ) (e : Act C) (a : Answer) → Sums l at e a → Remembers l at e a
   remembers l at e a s = grind (arith, nat_tests)
 
-  never_forgets : (l : Ledger C) → IsLegal l → NeverForgets l
-  never_forgets = each_legal NeverForgets (λ s lawful. tt) (λ l at e before. (before, inl (omega arith))) (λ l at e a legal f row before. (before, remembers l at e a (row_sums l at e a legal f row)))
+  all_remembered : (l : Ledger C) → IsLegal l → AtEach Remembers l
+  all_remembered = at_each Remembers (λ l at e. inl (omega arith)) (λ l at e a legal f row. remembers l at e a (row_sums l at e a legal f row))
 
   promised_open : (l : Ledger C) → 0 < handles l → Serves l
       → min (unnotified l - (approved l + lost l)) ((start l).config.max_size - (conns l + approved l) + idle_count l - (notified l + lost l)) ≡ 0
   promised_open l open_now s = omega arith
 
   pub keeps_promises : (l : Ledger C) → IsLegal l → KeepsPromises l
-  keeps_promises l legal = grind (arith, nat_tests, either_none, promised_open, all_serve, never_forgets, all_in_line, always_keeps_places)
+  keeps_promises l legal = grind (arith, nat_tests, either_none, promised_open, all_serve, all_remembered, all_in_line, all_keep_places)

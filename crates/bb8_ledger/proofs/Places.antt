@@ -1,10 +1,10 @@
 -- Who waits, and since when: an event leaves each where it was, but for a try that begins a wait.
 use Rattle.bb8_ledger.proofs.Words.{◌≡◌, ◌≢◌, ◌⊎◌, ℕ, ◌<◌, max, Bool, true, false, cond, eqb, List, [], ◌∷◌, ◌++◌, Option, Some, None, is_some, slice_get, option_map, option_and_then, refl, sym, ap, ◌∙◌, arith, inl, inr, Active, Getting, Numbered, at, at_number, update, in_order, after_end, gets_stand, is_unnotified, is_notified, unnotified_at, get_at_place, at_wait, with_notice, Act, Try, Answer, new_get, Ledger, Later, start, position, latest, gets, idle_count, get_of, Row, begins, waits_on, serves, takes_out, waits, checks, check_fails, gives_up, gives_up_kept, gives_up_closed, keeps, returns_closed, detaches, evicts, opens, adds, IsLegal, fits, and_right, nat_tests}
 use Rattle.bb8_ledger.specs.Ledger.{numbered_get}
-use Rattle.bb8_ledger.specs.Limits.{WaitsSince, KeepsPlaces, AlwaysKeepsPlaces}
+use Rattle.bb8_ledger.specs.Limits.{AtEach, WaitsSince, KeepsPlaces}
 use Rattle.bb8_types.proofs.Numbered as numbered
 use Rattle.bb8_ledger.proofs.Waiters.{at_update, begins_now, is_waiting, handed}
-use Rattle.bb8_ledger.proofs.Effects.{each_legal}
+use Rattle.bb8_ledger.proofs.Effects.{each_legal, at_each}
 use Rattle.bb8_ledger.proofs.GetEffects.{put_off, getting, alive_get, holder_ends, holder_turns, left_gets, left_oldest, handed_to, waits_on_gets}
 use Rattle.bb8_ledger.proofs.Sums.{idle_none}
 
@@ -12,9 +12,7 @@ pub waiting_is : (o : Option Getting) → gets_stand is_waiting o ≡ true → (
 waiting_is o on = grind (arith, nat_tests)
 
 pub is_waiting_then : (o : Option Getting) → (gets_stand is_notified o ≡ true) ⊎ (gets_stand is_unnotified o ≡ true) → gets_stand is_waiting o ≡ true
-is_waiting_then None (inl on) = cc
-is_waiting_then None (inr on) = cc
-is_waiting_then (Some s) w = grind (arith, nat_tests)
+is_waiting_then o row = grind (arith, nat_tests)
 
 -- the get waited where it waits now
 abbrev Waited : ℕ → List (Numbered Getting) → ℕ → Numbered Getting → Type 0
@@ -35,8 +33,7 @@ changed_waited first k g f gs y off hy on = grind (arith, nat_tests, numbered.sa
 -- one whose state is known
 told_waited : (first m g : ℕ) (n : Option ℕ) (gs : List (Numbered Getting)) (y : Numbered Getting) → n ≡ slice_get (in_order unnotified_at first gs m) 0
     → at first (with_notice first n gs) g ≡ Some y → gets_stand is_waiting y.standing ≡ true → Waited first gs g y
-told_waited first m g None gs y is hy on = (y, hy, refl, on)
-told_waited first m g (Some h) gs y is hy on = grind (arith, nat_tests, numbered.same_or_not, numbered.in_order_member, at_own, is_waiting_then, and_right, at_other)
+told_waited first m g n gs y is hy on = grind (arith, nat_tests, numbered.same_or_not, numbered.in_order_member, at_own, is_waiting_then, and_right, at_other)
 
 -- one that begins does not wait
 begun_waited : (first g : ℕ) (gs : List (Numbered Getting)) (y : Numbered Getting) → at first (gs ++ new_get ∷ []) g ≡ Some y → gets_stand is_waiting y.standing ≡ true → at first gs g ≡ Some y
@@ -103,18 +100,10 @@ module _ {C : Type 0} where
   since_stands l g p w = ap (λ (o : Option (Numbered Getting)). option_and_then (λ (x : Numbered Getting). x.standing) o) w.1
 
   row_keeps_places : (l : Ledger C) (at : ℕ) (e : Act C) (a : Answer) → fits l e ≡ true → Row l at e a → KeepsPlaces l at e a
-  row_keeps_places l at e a f row g p q was is = elim (row_since l at e a g q f row is) [
-    | inl same ↦ inl (one_since l g p q was same)
-    | inr now ↦ elim was.3 [
-      | inl on ↦ inr (now.0, now.1, ap (gets_stand is_notified) (since_stands l g p was) ∙ on, now.3)
-      | inr on ↦ absurd (let clash : false ≡ true = sym now.2 ∙ ap (gets_stand is_unnotified) (since_stands l g p was) ∙ on in cc)
-    ]
-  ]
+  row_keeps_places l at e a f row g p q was is = grind (arith, nat_tests, row_since l at e a g q f row, one_since l g p q was, since_stands l g p)
 
-  pub always_keeps_places : (l : Ledger C) → IsLegal l → AlwaysKeepsPlaces l
-  always_keeps_places = each_legal AlwaysKeepsPlaces (λ s lawful. tt)
-      (λ l at e before. (before, λ g p q was is. inl (one_since l g p q was (is.0, is.1, is.2, is.3))))
-      (λ l at e a legal f row before. (before, row_keeps_places l at e a f row))
+  pub all_keep_places : (l : Ledger C) → IsLegal l → AtEach KeepsPlaces l
+  all_keep_places = at_each KeepsPlaces (λ l at e g p q was is. inl (one_since l g p q was (is.0, is.1, is.2, is.3))) (λ l at e a legal f row. row_keeps_places l at e a f row)
 
   -- Each that waits does so since an earlier event, and no two since the same.
   pub record AreApart (l : Ledger C) : Type 0 where

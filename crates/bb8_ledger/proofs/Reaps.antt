@@ -1,5 +1,5 @@
 -- A reap leaves nothing to close or to grant to a second one at the same moment.
-use Rattle.bb8_ledger.proofs.Words.{◌≡◌, ℕ, zero, suc, ◌-◌, ◌≤◌, Bool, false, List, [], ◌∷◌, ◌++◌, length, take, drop, Option, Some, None, refl, sym, ap, ◌∙◌, arith, subst, length-take, length-drop, take-length, drop-length, unwrap_or, Grant, Standing, Settings, Act, Answer, Numbered, update, tally, one, after_end, Ledger, Later, start, position, latest, records, idle_of, approval, with_approvals, reaped, outlived, idled, over_idle_at, idle_at, with_ended, Start, is_idle, idles_out, lives_out, Row, reaps, IsLegal, reap_granted, IsMadeGood, ReapsOnce, NeverReapsTwice, Before, and_right, nat_tests}
+use Rattle.bb8_ledger.proofs.Words.{◌≡◌, ℕ, zero, suc, ◌-◌, ◌≤◌, Bool, false, List, [], ◌∷◌, length, take, drop, Option, Some, None, refl, sym, ap, ◌∙◌, arith, subst, length-take, length-drop, take-length, drop-length, unwrap_or, Grant, Standing, Settings, Act, Answer, Numbered, update, tally, one, after_end, Ledger, Later, start, position, latest, records, idle_of, approval, with_approvals, reaped, outlived, idled, over_idle_at, idle_at, with_ended, Start, is_idle, idles_out, lives_out, Row, IsLegal, reap_granted, IsMadeGood, ReapsOnce, Before, and_right, nat_tests}
 use Rattle.bb8_types.proofs.Numbered as numbered
 use Rattle.bb8_ledger.proofs.Facts.{ended_all_before, entered_before}
 use Rattle.bb8_ledger.proofs.Standings.{before-approve}
@@ -47,8 +47,7 @@ module _ {C : Type 0} where
 
   -- so a reap ends nothing
   none_reaped : (s : Start) (m now : ℕ) (rs : List (Numbered (Standing C))) → NoneDue s m now rs → length (reaped s m now rs) ≡ 0
-  none_reaped s m now rs none =
-      ap (λ (ks : List ℕ). length (ks ++ idled s m now (with_ended s.first ks rs))) (nothing (outlived s now rs) none.aged) ∙ none.idled
+  none_reaped s m now rs none = grind (arith, nat_tests, nothing)
 
   -- an event at which nobody entered changes nothing of it
   none_later : (s : Start) (m now : ℕ) (rs : List (Numbered (Standing C))) → Before idle_at m rs → NoneDue s m now rs → NoneDue s (suc m) now rs
@@ -103,10 +102,5 @@ module _ {C : Type 0} where
       (λ l at e h before is. let was = h before is in (none_later (start l) (position l) (latest l) (records l) (entered_before l) was.0, was.1))
       (λ l at e a legal f row h. row_reaped l at e a row)
 
-  row_once : (l : Ledger C) (at : ℕ) (e : Act C) (a : Answer) → IsLegal l → Row l at e a → ReapsOnce l at e a
-  row_once l at _ _ legal (reaps {closed} {grant} open_now closed_is by_idle_is by_life_is want) = grind (arith, nat_tests, all_reaped, none_reaped, due_open, reaped_sized)
-  row_once l at _ _ legal _ = tt
-
-  -- a reap leaves nothing to a second one
-  pub never_reaps_twice : (l : Ledger C) → IsLegal l → NeverReapsTwice l
-  never_reaps_twice = each_legal NeverReapsTwice (λ s lawful. tt) (λ l at e before. (before, tt)) (λ l at e a legal f row before. (before, row_once l at e a legal row))
+  pub row_once : (l : Ledger C) (at : ℕ) (e : Act C) (a : Answer) → IsLegal l → Row l at e a → ReapsOnce l at e a
+  row_once l at e a legal row = grind (arith, nat_tests, all_reaped, none_reaped, due_open, reaped_sized)

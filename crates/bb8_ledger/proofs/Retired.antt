@@ -5,10 +5,7 @@ use Rattle.bb8_ledger.proofs.Reaps.{reaped_none}
 
 -- what is kept is not retired
 kept_fresh : (broken old r over : Bool) → (broken || ((old || r) || over)) ≡ false → r ≡ false
-kept_fresh true old r over h = cc
-kept_fresh false true r over h = cc
-kept_fresh false false true over h = cc
-kept_fresh false false false over h = refl
+kept_fresh broken old r over h = grind (arith, nat_tests)
 
 -- nor is what comes in time
 in_time_fresh : (over r : Bool) → (over || r) ≡ false → r ≡ false
@@ -80,38 +77,22 @@ module _ {C : Type 0} where
   -- handle is alive
   pub row_from : (l : Ledger C) (at : ℕ) (e : Act C) (a : Answer) → Row l at e a → retired l ≤ next l → (handles l ≡ 0 → idle_count l ≡ 0)
       → AreFrom (retired l) (start l).first (records l) → AreFrom (retired (Later l at e a)) (start l).first (records (Later l at e a))
-  row_from l at _ _ (serves {k} {grant} not_waiting off first want) few none u = granted _ _ false grant.count _ (placed _ _ k Guarded (records l) refl u)
-  row_from l at _ _ (takes_out {g} {k} {grant} not_waiting on first want) few none u = granted _ _ false grant.count _ (placed _ _ k (Held g) (records l) refl u)
-  row_from l at _ _ (waits_on {grant} on nothing) few none u = granted _ _ false grant.count (records l) u
-  row_from l at _ _ (waits {grant} not_waiting empty asked) few none u = granted _ _ false grant.count (records l) u
-  row_from l at _ _ (checks {k} holds_it nothing) few none u = placed _ _ k Guarded (records l) refl u
-  row_from l at _ _ (check_fails {k} {grant} holds_it want is) few none u = granted _ _ false grant.count _ (ended _ _ k (records l) u)
   row_from l at _ _ (gives_up_kept {k} {c} {broken} holds_it keep is) few none u = grind (arith, nat_tests, kept_fresh, updated, not_below)
-  row_from l at _ _ (gives_up_closed {k} {grant} holds_it shut want is) few none u = granted _ _ false grant.count _ (ended _ _ k (records l) u)
   row_from l at _ _ (keeps {k} {c} {broken} keep is) few none u = grind (arith, nat_tests, kept_fresh broken, updated, not_below k (retired l))
-  row_from l at _ _ (returns_closed {k} {grant} shut want is) few none u = granted _ _ false grant.count _ (ended _ _ k (records l) u)
-  row_from l at _ _ (detaches {k} {grant} want is) few none u = granted _ _ false grant.count _ (ended _ _ k (records l) u)
-  row_from l at _ _ (evicts {k} {grant} want is) few none u = granted _ _ false grant.count _ (ended _ _ k (records l) u)
-  row_from l at _ _ (fills {claimed} {grant} want) few none u = granted _ _ claimed grant.count (records l) u
-  row_from l at _ _ (asks_for {grant} asked) few none u = granted _ _ false grant.count (records l) u
-  row_from l at _ _ (claims {k = Some k} open_now first) few none u = placed _ _ k Claimed (records l) refl u
   row_from l at _ _ (opens {k} {c} in_time is) few none u = grind (arith, nat_tests, in_time_fresh (eqb (handles l) 0) (ltb k (retired l)) in_time, updated, not_below k (retired l))
-  row_from l at _ _ (opens_late {k} late) few none u = ended _ _ k (records l) u
-  row_from l at _ _ (fails {k}) few none u = ended _ _ k (records l) u
-  row_from l at _ _ (adds {c} room new is who) few none u = appended _ _ (records l) (entry c (max (latest l) at) (max (latest l) at) (position l)) (λ idle. few) u
-  row_from l at _ _ (reaps {grant} open_now closed_is by_idle_is by_life_is want) few none u = granted _ _ false grant.count _ (all_ended _ _ (reaped_at l at) (records l) u)
   row_from l at _ _ (retires {grant} open_now closed_is want) few none u = none_idle _ _ _ (all_closed l at grant.count)
   row_from l at _ _ (retire_ended over) few none u = none_idle _ _ (records l) (none over)
-  row_from l at _ _ (leaves is) few none u = last (eqb (handles l) 1)
-    where
-      last : (t : Bool) → AreFrom (retired l) (start l).first (cond t (map (after_end_where is_left) (records l)) (records l))
-      last true = swept _ _ (records l) u
-      last false = u
-  row_from l at _ _ (shuts is) few none u = swept _ _ (records l) u
-  row_from l at _ _ _ few none u = u
+  row_from l at _ _ _ few none u = grind (
+    arith,
+    nat_tests,
+    granted (retired l) (start l).first,
+    placed (retired l) (start l).first,
+    ended (retired l) (start l).first,
+    all_ended (retired l) (start l).first,
+    swept (retired l) (start l).first,
+    appended (retired l) (start l).first,
+  )
 
   -- all that was retired had numbers
   pub row_few : (l : Ledger C) (at : ℕ) (e : Act C) (a : Answer) → Row l at e a → next l ≤ next (Later l at e a) → retired l ≤ next l → retired (Later l at e a) ≤ next (Later l at e a)
-  row_few l at _ _ (retires open_now closed_is want) more few = more
-  row_few l at _ _ (retire_ended over) more few = more
-  row_few l at _ _ _ more few = omega (arith, more, few)
+  row_few l at e a row more few = grind (arith, nat_tests)

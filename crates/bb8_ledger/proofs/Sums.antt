@@ -1,8 +1,7 @@
 -- What each row of the step table does to the sizes, the numbers and the statistics.
-use Rattle.bb8_ledger.proofs.Words.{⊤, ◌≡◌, ◌⊎◌, ℕ, ◌+◌, ◌-◌, ◌<◌, ◌≤◌, min, Bool, zero, suc, true, false, not, ltb, eqb, ◌&&◌, ◌||◌, List, Option, Some, None, is_some, refl, ap, inl, inr, arith, length-append, Grant, Guarded, Held, Standing, Settings, Numbered, one, due, Act, Try, CheckedOk, GiveUp, Reason, TimedOut, Cancelled, Answer, Getting, gets_stand, is_unnotified, is_notified, Closed, Kept, cond, oldest_waiter, Entered, Reaped, Unfit, Ledger, Later, start, handles, idle, idle_count, first_idle, unnotified, notified, conns, approved, conns_of, approved_of, alive, expires, waited_since, started, direct, waited, timed_out, cancelled, created, broken, expired, invalid, idled_out, retired, closed_retired, detached, get_of, Row, begins, waits_on, serves, takes_out, waits, checks, check_fails, gives_up, gives_up_kept, gives_up_closed, keeps, returns_closed, detaches, evicts, fills, asks_for, unprovided, claims, opens, opens_late, fails, adds, reaps, retires, joins, leaves, shuts, IsWant, IsLegal, fits, outlived_at, idled_at, GivesNext, NeverGivesAgain, numbers_given, gets_given, lost, and_right, nat_tests, is_doubtful}
-use Rattle.bb8_types.proofs.Numbered as numbered
+use Rattle.bb8_ledger.proofs.Words.{⊤, ◌≡◌, ◌⊎◌, ℕ, ◌+◌, ◌-◌, ◌<◌, ◌≤◌, min, Bool, true, false, not, ltb, eqb, ◌&&◌, ◌||◌, List, Option, Some, None, is_some, ap, arith, length-append, Grant, Guarded, Held, Standing, Settings, Numbered, one, due, Act, Try, CheckedOk, GiveUp, Reason, Answer, Getting, gets_stand, is_unnotified, is_notified, Closed, Kept, cond, oldest_waiter, Entered, Reaped, Unfit, Ledger, Later, start, handles, idle, idle_count, first_idle, unnotified, notified, conns, approved, conns_of, approved_of, alive, expires, waited_since, started, direct, waited, timed_out, cancelled, created, broken, expired, invalid, idled_out, retired, closed_retired, detached, get_of, Row, begins, waits_on, serves, takes_out, waits, checks, check_fails, gives_up, gives_up_kept, gives_up_closed, keeps, returns_closed, detaches, evicts, fills, asks_for, unprovided, claims, opens, opens_late, fails, adds, reaps, retires, joins, leaves, shuts, IsWant, IsLegal, fits, outlived_at, idled_at, GivesNext, numbers_given, gets_given, lost, and_right, nat_tests, is_doubtful}
 use Rattle.bb8_ledger.specs.Handed.{notified_by, brought_by, waiters, unasked, missed, closes_told, places_lost}
-use Rattle.bb8_ledger.proofs.Effects.{each_legal, returns_turn, closes_turn, evicts_turn, opens_turn, ends_turn, idle_turns, unclaimed_turns, stays_sized, turned_sized, adds_sized, granted_sized, reaped_sized, retired_sized, granted_reaped, left_sized, shut_sized}
+use Rattle.bb8_ledger.proofs.Effects.{returns_turn, closes_turn, evicts_turn, opens_turn, ends_turn, idle_turns, unclaimed_turns, stays_sized, turned_sized, adds_sized, granted_sized, reaped_sized, retired_sized, granted_reaped, left_sized, shut_sized}
 use Rattle.bb8_ledger.proofs.GetEffects.{trier_leaves, trier_holds, holder_ends, holder_turns, left_sums, left_told, begun_sums, waits_on_sums, waits_sums, told_sums, given_up_sums}
 use Rattle.bb8_ledger.proofs.Facts.{idle_tally, none_first}
 use Rattle.bb8_ledger.proofs.Wants.{due_or_none}
@@ -25,27 +24,19 @@ pub due_few : (config : Settings) (handles taken asked : ℕ) → due config han
 due_few config handles taken asked = grind arith
 
 one_of : (b r x : Bool) → one b + one (not b && r) + one (not b && (not r && x)) ≤ 1
-one_of true r x = omega arith
-one_of false true x = omega arith
-one_of false false true = omega arith
-one_of false false false = omega arith
+one_of b r x = grind (arith, nat_tests)
 
 -- what is kept is kept while a handle is alive
 kept_open : (broken expired : Bool) (handles : ℕ) → (broken || (expired || eqb handles 0)) ≡ false → 0 < handles
-kept_open true e n kept = cc
-kept_open false true n kept = cc
-kept_open false false zero kept = cc
-kept_open false false (suc n) kept = omega arith
+kept_open broken e n kept = grind (arith, nat_tests)
 
 -- what comes in time comes while a handle is alive
 open_in_time : (handles : ℕ) (r : Bool) → (eqb handles 0 || r) ≡ false → 0 < handles
-open_in_time zero r in_time = cc
-open_in_time (suc n) r in_time = omega arith
+open_in_time handles r in_time = grind (arith, nat_tests)
 
 -- a served get counts once
 either_one : (b : Bool) → one (not b) + one b ≡ 1
-either_one true = refl
-either_one false = refl
+either_one b = grind (arith, nat_tests)
 
 -- one is asked for, or there are enough
 one_or_enough : (have need : ℕ) → (one (ltb have need) ≡ 1) ⊎ (need ≤ have)
@@ -53,8 +44,7 @@ one_or_enough have need = grind arith
 
 -- where there is none it is this, and where there is one it is that
 none_or_some : (n this that : ℕ) → ((n ≡ 0) × (cond (eqb n 0) this that ≡ this)) ⊎ ((0 < n) × (cond (eqb n 0) this that ≡ that))
-none_or_some zero this that = inl (refl, refl)
-none_or_some (suc n) this that = inr (omega arith, ap (λ (b : Bool). cond b this that) (numbered.ne_test (suc n) 0 (λ e. omega arith)))
+none_or_some n this that = grind (arith, nat_tests)
 
 -- a handle is alive
 is_open : (n : ℕ) → ltb 0 n ≡ true → 0 < n
@@ -66,8 +56,7 @@ one_if_some n = grind arith
 
 -- who was not notified is not among the notified
 pub untold : (o : Option Getting) → gets_stand is_unnotified o ≡ true → gets_stand is_notified o ≡ false
-untold None on = cc
-untold (Some s) on = grind (arith, nat_tests)
+untold o on = grind (arith, nat_tests)
 
 -- how far the notified waiters may be fewer after an event, where so many are not notified then
 abbrev Lowers : {C : Type 0} → Act C → ℕ → ℕ → Type 0
@@ -91,9 +80,7 @@ module _ {C : Type 0} where
   -- a get that gives up counts once
   gave_up : (l : Ledger C) (at g : ℕ) (why : Reason) (held : Option C) (broken : Bool) (a : Answer) → (a ≡ Unfit → ⊥)
       → timed_out (Later l at (GiveUp g why held broken) a) + cancelled (Later l at (GiveUp g why held broken) a) ≡ timed_out l + cancelled l + 1
-  gave_up l at g why held broken Unfit off = absurd (off refl)
-  gave_up l at g TimedOut held broken _ off = omega arith
-  gave_up l at g Cancelled held broken _ off = omega arith
+  gave_up l at g why held broken a off = grind (arith, nat_tests)
 
   -- While somebody waits unnotified, the idle ones do not outnumber the notified ones; while a
   -- handle is alive, the unnotified ones do not outnumber the open approvals, or what could still
@@ -123,8 +110,7 @@ module _ {C : Type 0} where
 
   -- where a get waits unnotified, one is first
   some_told : (l : Ledger C) (n : Option ℕ) → n ≡ oldest_waiter l → min 1 (unnotified l) ≤ one (is_some n)
-  some_told l None is = omega (arith, told_sums l None is)
-  some_told l (Some g) is = omega arith
+  some_told l n is = grind (arith, nat_tests, told_sums l None)
 
   -- ---- the sums of a row
 
@@ -245,9 +231,3 @@ module _ {C : Type 0} where
   row_sums l at _ _ legal f (leaves {n} is) = omega (arith, left_sized l at n, (left_sized l at n).last)
   row_sums l at _ _ legal f (shuts {n} is) = omega (arith, shut_sized l)
   row_sums l at _ _ legal f _ = omega arith
-
-  -- ---- what they sum up to
-
-  -- no number is given again
-  pub never_again : (l : Ledger C) → IsLegal l → NeverGivesAgain l
-  never_again = each_legal NeverGivesAgain (λ s lawful. tt) (λ l at e before. (before, omega arith)) (λ l at e a legal f row before. (before, (row_sums l at e a legal f row).gives))

@@ -79,8 +79,7 @@ changed_tally {S} test f rs n k x o h is = rw (← is) (tally_update (λ (r : Nu
 
 -- the get in a state that passes
 pub getting_is : (test : GetPlace → Bool) (o : Option Getting) → gets_stand test o ≡ true → (s : Getting) × (o ≡ Some s) × (test s.place ≡ true)
-getting_is test None h = cc
-getting_is test (Some s) h = (s, refl, h)
+getting_is test o h = grind (arith, nat_tests)
 
 -- it waits, notified or not
 abbrev pub is_waiting : GetPlace → Bool
@@ -89,21 +88,18 @@ is_waiting (Waiting notified) = true
 is_waiting (Holding k) = false
 
 pub unnotified_place : (p : GetPlace) → is_unnotified p ≡ true → p ≡ Waiting false
-unnotified_place (Waiting false) h = refl
-unnotified_place _ h = cc
+unnotified_place p h = grind (arith, nat_tests)
 
 -- who does not wait is neither unnotified nor notified
 pub not_waiting : (o : Option Getting) → gets_stand is_waiting o ≡ false → (gets_stand is_unnotified o ≡ false) × (gets_stand is_notified o ≡ false)
-not_waiting None off = (refl, refl)
-not_waiting (Some s) off = grind arith
+not_waiting o off = grind (arith, nat_tests)
 
 -- a get is counted once at most among those who wait
 one_place : (p : GetPlace) → one (is_unnotified p) + one (is_notified p) ≤ 1
 one_place p = grind (arith, nat_tests)
 
 untold_place : (p : GetPlace) → is_notified p ≡ true → is_unnotified p ≡ false
-untold_place (Waiting true) told = refl
-untold_place _ told = cc
+untold_place p told = grind (arith, nat_tests)
 
 -- those who wait are alive
 pub waiters_few : (gs : List (Numbered Getting)) → tally_gets is_unnotified gs + tally_gets is_notified gs ≤ alive_of gs
@@ -145,8 +141,7 @@ pub notify_length : (first : ℕ) (n : Option ℕ) (gs : List (Numbered Getting)
 notify_length first n gs = grind (arith, nat_tests, numbered.length-update gs first)
 
 pub notify_alive : (first : ℕ) (n : Option ℕ) (gs : List (Numbered Getting)) → alive_of (with_notice first n gs) ≡ alive_of gs
-notify_alive first None gs = refl
-notify_alive first (Some g) gs = tally_same (λ (y : Numbered Getting). is_some y.standing) (get_at_place (Waiting true)) (λ x. as_some (get_with_place (Waiting true)) x.standing) gs first g
+notify_alive first n gs = grind (arith, nat_tests, tally_same, as_some)
 
 -- the first of the unnotified, if there is one, is notified
 pub notify_counted : (first m : ℕ) (n : Option ℕ) (gs : List (Numbered Getting)) → Before unnotified_at m gs
@@ -180,8 +175,7 @@ both_false : (a b : Bool) → b ≡ false → (a && b) ≡ false
 both_false a b f = grind (arith, nat_tests)
 
 pub one_few : (b : Bool) → one b ≤ 1
-one_few true = omega arith
-one_few false = omega arith
+one_few b = grind (arith, nat_tests)
 
 -- a get that was notified waits since before this position, and one that was not since then at the
 -- earliest
@@ -294,11 +288,7 @@ handed first m g n gs x s h is who = grind (arith, nat_tests, same_line first m 
 pub line_given_up : (first p g : ℕ) (n : Option ℕ) (gs : List (Numbered Getting)) (x : Numbered Getting) (s : Getting)
     → at first gs g ≡ Some x → x.standing ≡ Some s → n ≡ cond (is_notified s.place) (slice_get (in_order unnotified_at first gs p) 0) None → InLine first p gs
     → InLine first p (with_notice first n (update first g after_end gs))
-line_given_up first p g n gs x s h is who i = pick (is_notified s.place) (handed first p g n gs x s h is who) (line_left first p g after_end gs x h refl i)
-  where
-    pick : (b : Bool) → n ≡ cond b (slice_get (in_order unnotified_at first (update first g after_end gs) p) 0) None
-        → InLine first p (update first g after_end gs) → InLine first p (with_notice first n (update first g after_end gs))
-    pick b to left = grind (arith, nat_tests, line_notified)
+line_given_up first p g n gs x s h is who i = grind (arith, nat_tests, handed first p g n gs x s h is, line_left first p g after_end gs x h refl, line_notified)
 
 -- how many wait once a get has given up: one unnotified less at most, or one notification passed on
 abbrev pub IsGivenUp : (u n u' n' : ℕ) → Type 0
@@ -310,16 +300,13 @@ pub given_up_counted : (first m g : ℕ) (n : Option ℕ) (gs : List (Numbered G
     → IsGivenUp (tally_gets is_unnotified gs) (tally_gets is_notified gs)
     (tally_gets is_unnotified (with_notice first n (update first g after_end gs)))
     (tally_gets is_notified (with_notice first n (update first g after_end gs)))
-given_up_counted first m g n gs x s h is who b = pick (is_notified s.place) refl (handed first m g n gs x s h is who)
-  where
-    lost : (test : GetPlace → Bool) → tally_gets test (update first g after_end gs) + one (test s.place) ≡ tally_gets test gs
-    lost test = omega (arith, changed_tally (gets_stand test) after_end gs first g x (Some s) h is)
-
-    pick : (t : Bool) → is_notified s.place ≡ t → n ≡ cond t (slice_get (in_order unnotified_at first (update first g after_end gs) m) 0) None
-        → IsGivenUp (tally_gets is_unnotified gs) (tally_gets is_notified gs)
-        (tally_gets is_unnotified (with_notice first n (update first g after_end gs))) (tally_gets is_notified (with_notice first n (update first g after_end gs)))
-    pick false e none = rw none (inl (omega (arith, lost is_unnotified), omega (arith, lost is_notified, ap one e)))
-    pick true e to =
-        let counted = notify_counted first m n (update first g after_end gs) (numbered.ended_before (gets_stand is_unnotified) gs first g m refl b) to in
-        let off : one (is_unnotified s.place) ≡ 0 = ap one (untold_place s.place e) in
-        inr (omega (arith, counted.0, lost is_unnotified), omega (arith, counted.0, counted.1, lost is_unnotified, lost is_notified, ap one e))
+given_up_counted first m g n gs x s h is who b = grind (
+  arith,
+  nat_tests,
+  handed first m g n gs x s h is who,
+  changed_tally (gets_stand is_unnotified) after_end gs first g x (Some s) h is,
+  changed_tally (gets_stand is_notified) after_end gs first g x (Some s) h is,
+  notify_counted first m n (update first g after_end gs),
+  numbered.ended_before (gets_stand is_unnotified) gs first g m refl b,
+  untold_place,
+)

@@ -1,20 +1,17 @@
 -- What is wanted is made good.
-use Rattle.bb8_ledger.proofs.Words.{◌≡◌, ◌⊎◌, ℕ, zero, suc, ◌+◌, ◌-◌, ◌<◌, ◌≤◌, min, Bool, false, cond, List, refl, ap, inl, inr, arith, unwrap_or, Grant, Held, Guarded, Standing, Settings, Act, Ask, Answer, Granted, IsGranted, Numbered, after_end, Ledger, Later, start, records, handles, next, peak, conns, approved, conns_of, approved_of, idle_of, at_place, with_approvals, Row, serves, takes_out, check_fails, gives_up_closed, returns_closed, detaches, evicts, fills, asks_for, unprovided, reaps, retires, IsWant, IsLegal, with_record, due, MakesGood, AlwaysMakesGood, nat_tests}
+use Rattle.bb8_ledger.proofs.Words.{◌≡◌, ◌⊎◌, ℕ, ◌+◌, ◌-◌, ◌<◌, ◌≤◌, min, Bool, false, cond, List, ap, arith, unwrap_or, Grant, Held, Guarded, Standing, Settings, Act, Ask, Answer, Granted, IsGranted, Numbered, after_end, Ledger, Later, start, records, handles, next, peak, conns, approved, conns_of, approved_of, idle_of, at_place, with_approvals, Row, serves, takes_out, check_fails, gives_up_closed, returns_closed, detaches, evicts, fills, asks_for, unprovided, reaps, retires, IsWant, with_record, due, MakesGood, nat_tests}
 use Rattle.bb8_ledger.specs.Limits.{IsAskedFor}
 use Rattle.bb8_types.proofs.Numbered as numbered
-use Rattle.bb8_ledger.proofs.Effects.{each_legal, approves}
+use Rattle.bb8_ledger.proofs.Effects.{approves}
 
 -- one of two numbers is nothing where the less of them is
 pub either_none : (x y : ℕ) → min x y ≡ 0 → (x ≡ 0) ⊎ (y ≡ 0)
-either_none zero y h = inl refl
-either_none (suc x) zero h = inr refl
-either_none (suc x) (suc y) h = absurd (omega arith)
+either_none x y h = grind (arith, nat_tests)
 
 -- what is granted reaches what is wanted, or the size, or something was withheld
 made_good : (least size had have took taken count withheld : ℕ) → count + withheld ≡ min (least - had) (size - took) → have ≡ had + count
     → taken ≡ took + count → (least ≤ have) ⊎ (size ≤ taken) ⊎ (0 < withheld)
-made_good least size had have took taken count (suc withheld) split more full = inr (inr (omega arith))
-made_good least size had have took taken count zero split more full = elim (either_none (least - have) (size - taken) (omega arith)) [ inl e ↦ inl (omega arith) | inr e ↦ inr (inl (omega arith)) ]
+made_good least size had have took taken count withheld split more full = grind (arith, nat_tests, either_none)
 
 -- what is due while a handle is alive
 pub due_open : (config : Settings) (handles taken asked : ℕ) → 0 < handles → due config handles taken asked ≡ min asked (config.max_size - taken)
@@ -50,6 +47,3 @@ module _ {C : Type 0} where
   row_makes_good l at _ _ (reaps {grant} open_now closed_is by_idle_is by_life_is want) = grind (arith, nat_tests, want_made_good)
   row_makes_good l at _ _ (retires {grant} open_now closed_is want) = grind (arith, nat_tests, want_made_good)
   row_makes_good l at _ _ _ = tt
-
-  pub makes_good : (l : Ledger C) → IsLegal l → AlwaysMakesGood l
-  makes_good = each_legal AlwaysMakesGood (λ s lawful. tt) (λ l at e before. (before, tt)) (λ l at e a legal f row before. (before, row_makes_good l at e a row))

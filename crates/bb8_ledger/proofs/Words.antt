@@ -29,6 +29,6 @@ pub use Rattle.bb8_ledger.specs.Acts.{Act, Leave, Close, Begin, Try, CheckedOk, 
 pub use Rattle.bb8_ledger.specs.Answers.{Answer, Taken, Left, Unfit, Begun, Memory, Exhausted, Served, Kept, Closed, GaveUp, Granted, Ended, Entered, Late, GivenBack, Added, Broken, NoCapacity, Withheld, Reaped, Joined, Looked, Claimed, Waiting}
 pub use Rattle.bb8_ledger.specs.Ledger.{Ledger, Later, start, position, latest, gets, get_of, get_at_place, at_wait, Opening, Start, handles, records, conns, approved, idle_count, out, idle, idle_at, first_idle, unclaimed, record_of, with_ended, outlived, idled, reaped, over_idle_at, tally_places, conns_of, approved_of, idle_of, at_place, entry, at_entry, approval, with_approvals, next, next_get, alive, oldest_waiter, peak, get_peak, figures, opening_with, records_after, gets_after, unnotified_at, new_get, with_notice, notified, unnotified, tally_gets, alive_of, invalid, idled_out, counts, moment_after, expires, waited_since, started, direct, waited, timed_out, cancelled, created, broken, expired, asks_check, retired, retiring, closed_retired, detached}
 pub use Rattle.bb8_ledger.specs.Table.{Row, begins, waits_on, serves, takes_out, waits, checks, check_fails, gives_up, gives_up_kept, gives_up_closed, keeps, returns_closed, detaches, evicts, opens, adds, asks_for, unprovided, shuts, IsLegal, fits, Allowed, with_record, reaped_at, outlived_at, idled_at, begin_refused, begin_exhausted, fills, claims, claim_ended, opens_late, fails, add_broken, add_full, add_exhausted, add_refused, reap_ended, reaps, retires, retire_ended, retired_at, joins, join_exhausted, leaves, looks, IsWant, closes, comes_late, leave_count, agree}
-pub use Rattle.bb8_ledger.specs.Limits.{HasTaken, last_try, ServesChecked, NeverServesUnchecked, KeepsLimits, KeepsLaws, KeepsPromises, NeverForgets, MayLower, lost, is_lent, ServesUnlent, NeverServesTwice, reap_granted, IsMadeGood, ReapsOnce, NeverReapsTwice, GivesNext, NeverGivesAgain, numbers_given, gets_given, MakesGood, AlwaysMakesGood}
-pub use Rattle.bb8_ledger.specs.Rows.{RowLine, AreAllowed, IsRow, first_waits, IsBackOff, after}
+pub use Rattle.bb8_ledger.specs.Limits.{Remembers, AtEach, HasTaken, last_try, ServesChecked, KeepsLimits, KeepsLaws, KeepsPromises, MayLower, lost, is_lent, ServesUnlent, reap_granted, IsMadeGood, ReapsOnce, GivesNext, numbers_given, gets_given, MakesGood}
+pub use Rattle.bb8_ledger.specs.Rows.{RowLine, WorkedRow, ledger_of, IsRow, first_waits, IsBackOff, after}
 pub use Rattle.bb8_ledger.specs.Waits.{IsMostWaits, waits as sum_of_waits}

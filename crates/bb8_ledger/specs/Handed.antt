@@ -8,7 +8,7 @@ use Rattle.bb8_types.specs.Places.{gets_stand, is_notified, is_unnotified}
 use Rattle.bb8_ledger.specs.Acts.{Act, Try, Ask}
 use Rattle.bb8_ledger.specs.Answers.{Answer, Served, Taken, Waiting, Kept, Closed, GaveUp, Granted, Entered, Added, Unfit}
 use Rattle.bb8_ledger.specs.Ledger.{Ledger, Opening, Later, start, position, handles, conns, approved, gets, idle_count, unnotified, notified, get_of, numbered_get}
-use Rattle.bb8_ledger.specs.Limits.{lost, lost_by, WaitsSince}
+use Rattle.bb8_ledger.specs.Limits.{AtEach, lost, lost_by, WaitsSince}
 
 -- the get that a result notifies
 abbrev pub notified_by : Answer → Option ℕ
@@ -81,16 +81,11 @@ module _ {C : Type 0} where
 
   -- Whether a try is in turn. One that takes a connection is of the first waiter and takes the
   -- connection that became idle just now, or nobody waited. One that waits finds nothing idle.
-  abbrev pub TriesInTurn : Ledger C → Act C → Answer → Type 0
-  TriesInTurn l (Try g) (Served k grant) = IsFirst l g × (0 < waiters l → just_brought l ≡ Some k)
-  TriesInTurn l (Try g) (Taken k grant) = IsFirst l g × (0 < waiters l → just_brought l ≡ Some k)
-  TriesInTurn l (Try g) (Waiting grant) = idle_count l ≡ 0
-  TriesInTurn l _ _ = ⊤
-
-  -- whether each try was in turn
-  abbrev pub AlwaysInTurn : Ledger C → Type 0
-  AlwaysInTurn (Opening s) = ⊤
-  AlwaysInTurn (Later l at e a) = AlwaysInTurn l × TriesInTurn l e a
+  abbrev pub TriesInTurn : Ledger C → ℕ → Act C → Answer → Type 0
+  TriesInTurn l at (Try g) (Served k grant) = IsFirst l g × (0 < waiters l → just_brought l ≡ Some k)
+  TriesInTurn l at (Try g) (Taken k grant) = IsFirst l g × (0 < waiters l → just_brought l ≡ Some k)
+  TriesInTurn l at (Try g) (Waiting grant) = idle_count l ≡ 0
+  TriesInTurn l at _ _ = ⊤
 
   -- the count of closes that notified a get
   abbrev pub closes_told : Ledger C → ℕ
@@ -151,7 +146,7 @@ module _ {C : Type 0} where
   pub record KeepsOrder (l : Ledger C) : Type 0 where
     pub settled : IsSettled l
     pub provided : IsProvided l
-    pub in_turn : AlwaysInTurn l
+    pub in_turn : AtEach TriesInTurn l
     pub behind : AllWaitBehind l
     pub few_lost : places_lost l ≤ closes_told l
     pub few_told : notified l + places_lost l ≤ closes_told l + one (is_some (due_try l))

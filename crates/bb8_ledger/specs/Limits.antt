@@ -51,6 +51,11 @@ lost_by (Waiting grant) = grant.withheld
 lost_by _ = 0
 
 module _ {C : Type 0} where
+  -- whether each event of a history, with the ledger before it, has a property
+  abbrev pub AtEach : (Ledger C → ℕ → Act C → Answer → Type 0) → Ledger C → Type 0
+  AtEach P (Opening s) = ⊤
+  AtEach P (Later l at e a) = AtEach P l × P l at e a
+
   -- Connections and open approvals are within the size. Each connection is idle or checked out. A
   -- get holds a connection exactly if that connection is checked out by it, so no connection has
   -- two holders, and none is held by a get that ended. While a waiter is not notified, there are at
@@ -71,11 +76,6 @@ module _ {C : Type 0} where
     pub get : GivesGet (next_get l) a
     pub more_gets : next_get (Later l at e a) ≡ next_get l + gets_given a
 
-  -- no number is used again
-  abbrev pub NeverGivesAgain : Ledger C → Type 0
-  NeverGivesAgain (Opening s) = ⊤
-  NeverGivesAgain (Later l at e a) = NeverGivesAgain l × GivesNext l at e a
-
   -- whether the connection k was served to a guard, and was neither returned nor detached since
   abbrev pub is_lent : Ledger C → ℕ → Bool
   is_lent (Opening s) k = false
@@ -85,15 +85,11 @@ module _ {C : Type 0} where
   is_lent (Later l at (Detach m) (Closed j grant n)) k = not (eqb k m) && is_lent l k
   is_lent (Later l at e a) k = is_lent l k
 
-  -- a connection that a result serves was not checked out by a guard
-  abbrev pub ServesUnlent : Ledger C → Answer → Type 0
-  ServesUnlent l (Served k grant) = is_lent l k ≡ false
-  ServesUnlent l _ = ⊤
-
-  -- no connection is served again before its guard returned it
-  abbrev pub NeverServesTwice : Ledger C → Type 0
-  NeverServesTwice (Opening s) = ⊤
-  NeverServesTwice (Later l at e a) = NeverServesTwice l × ServesUnlent l a
+  -- a connection that a result serves was not checked out by a guard: so none is served again before
+  -- its guard returned it
+  abbrev pub ServesUnlent : Ledger C → ℕ → Act C → Answer → Type 0
+  ServesUnlent l at e (Served k grant) = is_lent l k ≡ false
+  ServesUnlent l at e _ = ⊤
 
   -- the result of the last try of the get g that fitted
   abbrev pub last_try : Ledger C → ℕ → Option Answer
@@ -107,16 +103,11 @@ module _ {C : Type 0} where
   HasTaken l g k = (grant : Grant) × (last_try l g ≡ Some (Taken k grant))
 
   -- a connection that must be checked is served only by a check that passed, and to the get whose
-  -- last fitting try took it
+  -- last fitting try took it: with the check on, none is served unchecked that was idle for
+  -- `test_after`, which is 0 by default
   abbrev pub ServesChecked : Ledger C → ℕ → Act C → Answer → Type 0
   ServesChecked l at e (Served k grant) = asks_check l at k ≡ true → (g : ℕ) × (e ≡ CheckedOk g) × HasTaken l g k
   ServesChecked l at e _ = ⊤
-
-  -- no connection is served unchecked: with the check on, none that was idle for `test_after`,
-  -- which is 0 by default
-  abbrev pub NeverServesUnchecked : Ledger C → Type 0
-  NeverServesUnchecked (Opening s) = ⊤
-  NeverServesUnchecked (Later l at e a) = NeverServesUnchecked l × ServesChecked l at e a
 
   -- while a handle is alive, idle connections and open approvals reach min_idle, or the size is
   -- reached, or something was withheld
@@ -139,11 +130,6 @@ module _ {C : Type 0} where
   MakesGood l Ask (Granted grant) = IsAskedFor l grant
   MakesGood l e _ = ⊤
 
-  -- this holds after each of these events
-  abbrev pub AlwaysMakesGood : Ledger C → Type 0
-  AlwaysMakesGood (Opening s) = ⊤
-  AlwaysMakesGood (Later l at e a) = AlwaysMakesGood l × MakesGood (Later l at e a) e a
-
   -- the grant of the latest event that fitted, if that was a reap
   abbrev pub reap_granted : Ledger C → Option Grant
   reap_granted (Later l at e Unfit) = reap_granted l
@@ -158,22 +144,17 @@ module _ {C : Type 0} where
       → (closed ≡ 0) × (before.withheld ≡ 0 → grant.count ≡ 0)
   ReapsOnce l at e _ = ⊤
 
-  -- a reap leaves nothing to a second one
-  abbrev pub NeverReapsTwice : Ledger C → Type 0
-  NeverReapsTwice (Opening s) = ⊤
-  NeverReapsTwice (Later l at e a) = NeverReapsTwice l × ReapsOnce l at e a
-
   -- The laws of every run. No number is used again. No connection is served again before its guard
   -- returned it, and none unchecked that must be checked. What is lacking of min_idle, or of
   -- approvals for waiters at an ask, is granted as far as there is capacity. A reap leaves nothing
   -- to a second one. Each get that began has ended or is alive, so the gets that the statistics
   -- call pending are those that are alive.
   pub record KeepsLaws (l : Ledger C) : Type 0 where
-    pub numbers : NeverGivesAgain l
-    pub returned : NeverServesTwice l
-    pub checked : NeverServesUnchecked l
-    pub replenished : AlwaysMakesGood l
-    pub reaped : NeverReapsTwice l
+    pub numbers : AtEach GivesNext l
+    pub returned : AtEach ServesUnlent l
+    pub checked : AtEach ServesChecked l
+    pub replenished : AtEach (λ l at e a. MakesGood (Later l at e a) e a) l
+    pub reaped : AtEach ReapsOnce l
     pub answered : (counts l).direct + (counts l).waited + (counts l).timed_out + (counts l).cancelled + alive l ≡ (counts l).started
     pub pending : pending (counts l) ≡ alive l
 
@@ -198,9 +179,8 @@ module _ {C : Type 0} where
   MayLower _ _ = ⊥
 
   -- the count of notified waiters falls at no other event
-  abbrev pub NeverForgets : Ledger C → Type 0
-  NeverForgets (Opening s) = ⊤
-  NeverForgets (Later l at e a) = NeverForgets l × ((notified l ≤ notified (Later l at e a)) ⊎ MayLower e (unnotified (Later l at e a)))
+  abbrev pub Remembers : Ledger C → ℕ → Act C → Answer → Type 0
+  Remembers l at e a = (notified l ≤ notified (Later l at e a)) ⊎ MayLower e (unnotified (Later l at e a))
 
   -- each notified waiter waits since an earlier position than each that was not notified
   abbrev pub AreInTurn : Ledger C → Type 0
@@ -218,15 +198,10 @@ module _ {C : Type 0} where
   KeepsPlaces l at e a = (g p q : ℕ) → WaitsSince l g p → WaitsSince (Later l at e a) g q
       → (q ≡ p) ⊎ ((q ≡ position l) × (e ≡ Try g) × (gets_stand is_notified (get_of l g) ≡ true) × (idle_count l ≡ 0))
 
-  -- this holds at each event
-  abbrev pub AlwaysKeepsPlaces : Ledger C → Type 0
-  AlwaysKeepsPlaces (Opening s) = ⊤
-  AlwaysKeepsPlaces (Later l at e a) = AlwaysKeepsPlaces l × KeepsPlaces l at e a
-
   -- The promises to waiters: no notification is lost or out of turn, and each waiter keeps its
   -- position until it tries in vain.
   pub record KeepsPromises (l : Ledger C) : Type 0 where
     pub promised : IsPromised l
-    pub remembered : NeverForgets l
+    pub remembered : AtEach Remembers l
     pub in_turn : AreInTurn l
-    pub kept : AlwaysKeepsPlaces l
+    pub kept : AtEach KeepsPlaces l

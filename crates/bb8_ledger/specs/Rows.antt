@@ -1,13 +1,13 @@
 -- The meaning of a worked row, and notations for its lines. The rows are in WorkedRows.antt.
 -- In a row each connection is the number of its record, and moments are in nanoseconds.
-use Rattle.std.specs.Prelude.{◌≡◌, ℕ, zero, suc, ◌*◌, true, false, List, [], ◌∷◌, ◌++◌}
+use Rattle.std.specs.Prelude.{◌≡◌, ℕ, zero, suc, false, List, [], ◌∷◌, ◌++◌}
 use Rattle.bb8_types.specs.declared.grants.Grant.{Grant}
-use Rattle.bb8_types.specs.Settings.{Settings, default_settings, is_lawful}
-use Rattle.bb8_types.specs.Figures.{Figures}
+use Rattle.bb8_types.specs.Settings.{Settings, default_settings}
+use Rattle.bb8_types.specs.Figures.{Counts, Figures}
 use Rattle.bb8_ledger.specs.Acts.{Act, PutBack, Opened, Add}
 use Rattle.bb8_ledger.specs.Answers.{Answer}
 use Rattle.bb8_ledger.specs.Ledger.{Ledger, Later, figures, opening_with}
-use Rattle.bb8_ledger.specs.Table.{Allowed}
+use Rattle.bb8_ledger.specs.Table.{IsLegal}
 use Rattle.bb8_ledger.specs.Limits.{lost}
 use Rattle.bb8_ledger.specs.Handed.{HandsOver, places_lost, unasked, missed}
 use Rattle.bb8_ledger.specs.Waits.{wait, IsMostWaits}
@@ -25,17 +25,24 @@ abbrev pub after : Ledger ℕ → List RowLine → Ledger ℕ
 after l [] = l
 after l (t ∷ lines) = after (Later l t.at t.act t.answer) lines
 
--- whether the step table allows each result
-abbrev pub AreAllowed : Ledger ℕ → List RowLine → Type 0
-AreAllowed l [] = Unit {0}
-AreAllowed l (t ∷ lines) = Allowed l t.at t.act t.answer × AreAllowed (Later l t.at t.act t.answer) lines
+-- A row: the configuration, the first numbers of connections and gets, the statistics at the end,
+-- and the lines.
+pub record WorkedRow : Type 0 where
+  pub config : Settings
+  pub first : ℕ
+  pub first_get : ℕ
+  pub shown : Figures
+  pub lines : List RowLine
 
--- A worked row: from the empty ledger of a lawful configuration, with these first numbers, the
--- results are allowed, and the final state has these statistics.
-pub record IsRow (config : Settings) (first first_get : ℕ) (lines : List RowLine) (shown : Figures) : Type 0 where
-  pub lawful : is_lawful config ≡ true
-  pub allowed : AreAllowed (opening_with config first first_get) lines
-  pub last : figures (after (opening_with config first first_get) lines) ≡ shown
+-- the ledger at the end of a row
+abbrev pub ledger_of : WorkedRow → Ledger ℕ
+ledger_of row = after (opening_with row.config row.first row.first_get) row.lines
+
+-- The meaning of a row: its configuration is lawful, the step table allows each result, and the
+-- final state has these statistics.
+pub record IsRow (row : WorkedRow) : Type 0 where
+  pub legal : IsLegal (ledger_of row)
+  pub last : figures (ledger_of row) ≡ row.shown
 
 -- the first n waits of a back-off
 abbrev pub first_waits : ℕ → ℕ → List ℕ
@@ -74,26 +81,15 @@ returns k = PutBack k k false
 abbrev pub adds : ℕ → Act ℕ
 adds k = Add k false
 
--- the statistics of a state, in the order in which they are printed; the wait time in microseconds
-infix 70 connections◌idle◌started◌direct◌waited◌timed_out◌cancelled◌wait_us◌created◌broken◌invalid◌lifetime◌idle_timeout◌
-abbrev pub connections◌idle◌started◌direct◌waited◌timed_out◌cancelled◌wait_us◌created◌broken◌invalid◌lifetime◌idle_timeout◌ : (connections
-    idle started direct waited timed_out cancelled wait_us created broken invalid lifetime idle_timeout : ℕ) → Figures
-connections c idle i started s direct d waited w timed_out t cancelled x wait_us u created n broken b invalid v lifetime l idle_timeout j = record {
-  connections = c;
-  idle = i;
-  counts = record { started = s; direct = d; waited = w; timed_out = t; cancelled = x; wait_time = 1000 * u; created = n; broken = b; invalid = v; max_lifetime = l; idle_timeout = j; retired = 0; detached = 0 };
-}
+-- ---- notations for rows
 
--- the same statistics, with those that are printed after them if they are not 0
-infixl 69 ◌retired◌
-abbrev pub ◌retired◌ : Figures → ℕ → Figures
-◌retired◌ figures n = record figures { counts = record figures.counts { retired = n } }
+-- the statistics of a state: its connections, those of them that are idle, and the counts
+abbrev pub shows : ℕ → ℕ → Counts → Figures
+shows connections idle counts = record { connections = connections; idle = idle; counts = counts }
 
-infixl 69 ◌detached◌
-abbrev pub ◌detached◌ : Figures → ℕ → Figures
-◌detached◌ figures n = record figures { counts = record figures.counts { detached = n } }
-
--- ---- notations for configurations
+-- a row, in the order of its parts
+abbrev pub row : Settings → ℕ → ℕ → Figures → List RowLine → WorkedRow
+row config first first_get shown lines = record { config = config; first = first; first_get = first_get; shown = shown; lines = lines }
 
 -- this many connections at most, and no check on check-out
 abbrev pub unchecked : ℕ → Settings
@@ -101,16 +97,16 @@ unchecked max_size = record default_settings { max_size = max_size; test_on_chec
 
 -- ---- the order in which gets are served in a row
 
--- a row of one connection with hand-off: `lost` times a notified get waited anew, and a connection
--- was requested for each close
-abbrev pub HandsOverLosing : ℕ → List RowLine → Type 0
-HandsOverLosing lost lines = let l : Ledger ℕ = after (opening_with (unchecked 1) 0 0) lines in HandsOver l × (places_lost l ≡ lost) × (unasked l ≡ 0)
+-- with hand-off: `lost` times a notified get waited anew, and a connection was requested for each
+-- close
+abbrev pub HandsOverLosing : ℕ → WorkedRow → Type 0
+HandsOverLosing lost row = let l : Ledger ℕ = ledger_of row in HandsOver l × (places_lost l ≡ lost) × (unasked l ≡ 0)
 
--- a row of three connections with hand-off: nothing was lost to waiters since the latest ask,
--- `missing` approvals were missed, and a connection was requested for each close
-abbrev pub HandsOverMissing : ℕ → List RowLine → Type 0
-HandsOverMissing missing lines = let l : Ledger ℕ = after (opening_with (unchecked 3) 0 0) lines in HandsOver l × (lost l ≡ 0) × (missed l ≡ missing) × (unasked l ≡ 0)
+-- with hand-off: nothing was lost to waiters since the latest ask, `missing` approvals were missed,
+-- and a connection was requested for each close
+abbrev pub HandsOverMissing : ℕ → WorkedRow → Type 0
+HandsOverMissing missing row = let l : Ledger ℕ = ledger_of row in HandsOver l × (lost l ≡ 0) × (missed l ≡ missing) × (unasked l ≡ 0)
 
--- a row of one connection without hand-off
-abbrev pub IsOvertaking : List RowLine → Type 0
-IsOvertaking lines = HandsOver (after (opening_with (unchecked 1) 0 0) lines) → ⊥
+-- without hand-off
+abbrev pub IsOvertaking : WorkedRow → Type 0
+IsOvertaking row = HandsOver (ledger_of row) → ⊥

@@ -1,7 +1,6 @@
 -- The table of a get's polls, over the relations of any home and any user callbacks. These are
 -- parameters, so the table defines which calls are made, how many, and in which order.
 use Rattle.std.specs.Prelude.{◌≡◌, ℕ, ◌+◌, ◌-◌, ◌<◌, ◌≤◌, min, Bool, true, false, Option, Some, None, Result, Ok, Err}
-use Rattle.std.specs.Bool.{MatchBool}
 use Rattle.std.specs.Result.{MatchResult}
 use Rattle.futures.specs.Poll.{IfReady, OnPending}
 use Rattle.futures.specs.declared.task.Poll.{Poll}
@@ -35,14 +34,6 @@ use Rattle.bb8_lock.specs.declared.gets.state.Stage.{Stage}
 use Rattle.bb8_lock.specs.declared.gets.state.Stage.TheVariants.{Fresh, Trying, Waiting, Checking, Done}
 use Rattle.bb8_types.specs.Bounds.{last_moment}
 use Rattle.bb8_lock.specs.Steps as step
-
--- whether a get in this state has returned a result or was cancelled
-abbrev pub is_done : {C V P : Type 0} → Stage C V P → Bool
-is_done Fresh = false
-is_done (Trying b) = false
-is_done (Waiting b) = false
-is_done (Checking b held) = false
-is_done Done = true
 
 -- whether a get in this state holds nothing, because it has not begun or has ended
 abbrev pub holds_nothing : {C V P : Type 0} → Stage C V P → Bool
@@ -156,16 +147,6 @@ module _ {C E V P H X : Type 0} (home : HomeOf X C P H) (outside : OutsideOf X C
   Retries true b x next x' = Tries b x next x'
   Retries false b x next x' = LeavesLine b.get TimedOut x x' × (next ≡ Answer (Err errors.TimedOut))
 
-  -- the rows of each state, with or without a handle alive
-  abbrev pub GetAdvances : Bool → ℕ → Stage C V P → X → Next C V P E → X → Type 0
-  GetAdvances alive timeout Fresh x next x' =
-      (r : Result (FirstTry C P) Unfit) × (due : Option Moment) × (x1 : X)
-      × home.steps x m (step.Starts r) x1 × IsDeadline m timeout due × AfterTry r due x1 next x'
-  GetAdvances alive timeout (Trying b) x next x' = Retries alive b x next x'
-  GetAdvances alive timeout (Waiting b) x next x' = Retries alive b x next x'
-  GetAdvances alive timeout (Checking b held) x next x' = (x1 : X) × home.releases x x1 × Checks b held x1 next x'
-  GetAdvances alive timeout Done x next x' = MovesTo (Stand Done) x next x'
-
   -- a get ends because its deadline has passed: has_broken is called for a connection that it holds
   abbrev pub TimesOut : Stage C V P → X → X → Type 0
   TimesOut (Trying b) x x' = LeavesLine b.get TimedOut x x'
@@ -199,22 +180,29 @@ module _ {C E V P H X : Type 0} (home : HomeOf X C P H) (outside : OutsideOf X C
   EndsPoll (Answer a) x settled x' = (settled.answer ≡ Ready a) × (settled.stage ≡ Done) × (x' ≡ x)
   EndsPoll (Stand stage) x settled x' = Settles stage x settled x'
 
-  -- a first poll, after the look
-  abbrev pub Starts : ℕ → X → Settled C V P E → X → Type 0
-  Starts timeout x settled x' =
-      (next : Next C V P E) × (x1 : X) × GetAdvances true timeout Fresh x next x1 × EndsPoll next x1 settled x'
-
 module _ {C E V P H X : Type 0} (home : HomeOf X C P H) (outside : OutsideOf X C E V) where
-  -- The whole poll: its result, and the state, the home and the user callbacks after it. In Done no
-  -- call is made. Otherwise the clock is read, the home looked at, the get continues, and it has a
-  -- result or its deadline is compared.
-  abbrev pub GetPolls : ℕ → Stage C V P → X → Settled C V P E → X → Type 0
-  GetPolls timeout stage x settled x' =
-      MatchBool (is_done stage) ((settled.answer ≡ Pending) × (settled.stage ≡ stage) × (x' ≡ x))
-      ((at : Moment) × (x1 : X) × outside.reports x at x1
+  -- a first poll at a reading of the clock: the get begins and tries
+  abbrev pub Starts : Moment → ℕ → X → Settled C V P E → X → Type 0
+  Starts at timeout x settled x' =
+      (m : Moment) × (r : Result (FirstTry C P) Unfit) × (x1 : X) × home.steps x at (step.Starts m r) x1
+      × ((next : Next C V P E) × (due : Option Moment) × (x2 : X) × IsDeadline m timeout due × AfterTry home outside m r due x1 next x2 × EndsPoll home outside m next x2 settled x')
+
+  -- a later poll: the clock is read, the home looked at, and the get continues by its row
+  abbrev pub Continues : (Looked → X → Next C V P E → X → Type 0) → X → Settled C V P E → X → Type 0
+  Continues Row x settled x' =
+      (at : Moment) × (x1 : X) × outside.reports x at x1
       × ((seen : Looked) × (x2 : X) × home.steps x1 at (step.Looks seen) x2
-      × ((next : Next C V P E) × (x3 : X) × GetAdvances home outside seen.moment seen.alive timeout stage x2 next x3
-      × EndsPoll home outside seen.moment next x3 settled x')))
+      × ((next : Next C V P E) × (x3 : X) × Row seen x2 next x3 × EndsPoll home outside seen.moment next x3 settled x'))
+
+  -- The whole poll: its result, and the state, the home and the user callbacks after it. In Done no
+  -- call is made.
+  abbrev pub GetPolls : ℕ → Stage C V P → X → Settled C V P E → X → Type 0
+  GetPolls timeout Fresh x settled x' = (at : Moment) × (x1 : X) × outside.reports x at x1 × Starts at timeout x1 settled x'
+  GetPolls timeout (Trying b) x settled x' = Continues (λ seen. Retries home outside seen.moment seen.alive b) x settled x'
+  GetPolls timeout (Waiting b) x settled x' = Continues (λ seen. Retries home outside seen.moment seen.alive b) x settled x'
+  GetPolls timeout (Checking b held) x settled x' =
+      Continues (λ seen y next y'. (y1 : X) × home.releases y y1 × Checks home outside seen.moment b held y1 next y') x settled x'
+  GetPolls timeout Done x settled x' = (settled.answer ≡ Pending) × (settled.stage ≡ Done) × (x' ≡ x)
 
   -- a get that has begun and holds no connection is cancelled
   abbrev pub CancelsFree : GetKey → X → X → Type 0

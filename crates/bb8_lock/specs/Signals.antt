@@ -48,7 +48,7 @@ module _ {C P H : Type 0} where
   -- alive then, and a close notifies both. A look, a passed check, statistics and a new handle
   -- notify nobody.
   abbrev pub signals_of_step : Bool → GetStep C P H → Signals
-  signals_of_step over (Starts a) = signals_of (answered answer_of_first a)
+  signals_of_step over (Starts m a) = signals_of (answered answer_of_first a)
   signals_of_step over (Tries g a) = signals_of (answered answer_of_tried a)
   signals_of_step over (Fails g r a) = signals_of (answered answer_of_checked_err a)
   signals_of_step over (GivesUp g why a) = signals_of (answered answer_of_give_up a)

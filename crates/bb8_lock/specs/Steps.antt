@@ -10,7 +10,6 @@ use Rattle.bb8_tables.specs.declared.closed.Closed.{Closed}
 use Rattle.bb8_tables.specs.declared.keys.GetKey.{GetKey}
 use Rattle.bb8_tables.specs.declared.keys.Key.{Key}
 use Rattle.bb8_ledger.specs.Acts as acts
-use Rattle.bb8_ledger.specs.Acts.{Act}
 use Rattle.bb8_ledger.specs.Answers as answers
 use Rattle.bb8_ledger.specs.Answers.{Answer}
 use Rattle.bb8_core.specs.declared.answers.AddAnswer.{AddAnswer}
@@ -38,10 +37,10 @@ use Rattle.bb8_lock.specs.declared.gets.home.Tried.{Tried}
 use Rattle.bb8_core.specs.declared.answers.Unfit.{Unfit}
 use Rattle.bb8_lock.specs.Outcomes.{in_core, answer_of_tried}
 
--- Each step, with its arguments and its result.
+-- Each step, with its arguments and its result. A start also returns the effective moment.
 pub data GetStep (C P H : Type 0) : Type 0 where
   Looks : Looked → GetStep C P H
-  Starts : Result (FirstTry C P) Unfit → GetStep C P H
+  Starts : Moment → Result (FirstTry C P) Unfit → GetStep C P H
   Tries : GetKey → Result (Tried C P) Unfit → GetStep C P H
   Passes : GetKey → Key → P → Result (Passed P) Unfit → GetStep C P H
   Fails : GetKey → Returned C P → Result (CheckedErrAnswer C) C → GetStep C P H
@@ -82,7 +81,8 @@ module _ {C P H : Type 0} where
   -- returned; a step that does not fit changes only the access counter
   abbrev pub StepsBy : StateView C → Moment → GetStep C P H → StateView C → Type 0
   StepsBy s at (Looks seen) s' = Steps s at.0 acts.Look (answer_of_look seen) s'
-  StepsBy s at (Starts r) s' = StartsBy s at.0 r s'
+  StepsBy s at (Starts m r) s' =
+      (alive : Bool) × (looked : StateView C) × Steps s at.0 acts.Look (answer_of_look (record { moment = m; alive = alive })) looked × StartsBy looked m.0 r s'
   StepsBy s at (Tries get t) s' = Stepped Steps answer_of_tried s at.0 (acts.Try get.number) t s' × IfOk t (λ a. HandsOut s (in_core a))
   StepsBy s at (Passes get key permit a) s' = Stepped Steps (λ p. answer_of_checked_ok s.records.next p.key) s at.0 (acts.CheckedOk get.number) a s'
   StepsBy s at (Fails get r a) s' =

@@ -137,23 +137,22 @@ module _ {C E V P H X : Type 0} (home : HomeOf X C P H) (outside : OutsideOf X C
   abbrev pub Retires : ℕ → X → X → Type 0
   Retires size x x' = (list : Buffer (Closed C)) × IsListFor size list × RetiresInto list x x'
 
-  -- a get begins and tries at this moment, the home is released, and the get is cancelled if it has
-  -- no result
+  -- a get begins and tries at this reading of the clock, the home is released, and the get is
+  -- cancelled if it has no result
   abbrev pub TriesOnce : Moment → ℕ → X → Result (Option (Taken C P)) (RunError E) → X → Type 0
-  TriesOnce m timeout x result x' =
-      (settled : Settled C V P E) × (x1 : X) × (x2 : X) × Starts home outside m timeout x settled x1 × home.releases x1 x2
+  TriesOnce at timeout x result x' =
+      (settled : Settled C V P E) × (x1 : X) × (x2 : X) × Starts home outside at timeout x settled x1 × home.releases x1 x2
       × Cancels home outside settled.stage x2 x' × (result ≡ served_in settled.answer)
 
-  -- A connection at once, or None: the clock is read, and the home is looked at and asked for its
-  -- statistics. If none is idle, the home is released and no get begins. Otherwise a get tries once
-  -- before the home is released.
+  -- A connection at once, or None: the clock is read, and the home is asked for its statistics. If
+  -- none is idle, the home is released and no get begins. Otherwise a get tries once before the home
+  -- is released.
   abbrev pub TakesNow : ℕ → X → Result (Option (Taken C P)) (RunError E) → X → Type 0
   TakesNow timeout x result x' =
       (at : Moment) × (x1 : X) × outside.reports x at x1
-      × ((seen : Looked) × (x2 : X) × home.steps x1 at (step.Looks seen) x2
-      × ((state : State) × (x3 : X) × home.steps x2 seen.moment (step.Shows state) x3
-      × (state.idle_connections ≡ 0 → (result ≡ Ok None) × home.releases x3 x')
-      × (0 < state.idle_connections → TriesOnce seen.moment timeout x3 result x')))
+      × ((state : State) × (x2 : X) × home.steps x1 at (step.Shows state) x2
+      × (state.idle_connections ≡ 0 → (result ≡ Ok None) × home.releases x2 x')
+      × (0 < state.idle_connections → TriesOnce at timeout x2 result x'))
 
 -- a get that blocks its thread, over any home and any user callbacks
 module _ {C E V P H X : Type 0} (home : HomeOf X C P H) (outside : OutsideOf X C E V) (rests : RestsOf X) where

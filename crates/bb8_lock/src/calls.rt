@@ -88,26 +88,23 @@ pub fn take_now<C, V, P, E, X: GetHome<C, Permit = P> + Outside<C, E, Checking =
         pool.new }
 {
     let at = pool.now();
-    let moment = pool.look(at).moment;
-    let state = pool.state(moment);
-    if state.idle_connections == 0 {
+    if pool.state(at).idle_connections == 0 {
         pool.release();
         return Ok(None);
     }
-    try_once(pool, moment, timeout)
+    try_once(pool, at, timeout)
 }
 
-/// Begins a get that tries once at this moment, and cancels it if it has no result.
+/// Begins a get that tries once at this reading of the clock, and cancels it if it has no result.
 fn try_once<C, V, P, E, X: GetHome<C, Permit = P> + Outside<C, E, Checking = V>>(
     pool: &mut X,
-    moment: Moment,
+    at: Moment,
     timeout: Duration,
 ) -> Result<Option<Taken<C, P>>, RunError<E>>
-    ensures { TriesOnce X.GetHome X.Outside moment (as_nanos timeout)
-        pool.old result pool.new }
+    ensures { TriesOnce X.GetHome X.Outside at (as_nanos timeout) pool.old result pool.new }
 {
     let mut get = GetState::new();
-    let answer = get.start_step(pool, moment, timeout);
+    let answer = get.start_step(pool, at, timeout);
     pool.release();
     get.cancel_step(pool);
     match answer {

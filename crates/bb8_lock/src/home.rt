@@ -2,12 +2,9 @@
 //!
 //! Each critical section borrows the state and makes one step. No manager, customizer, sink or
 //! clock is called here.
-ghost use Rattle.std.specs.Prelude.{◌≡◌, ◌+◌, ◌≤◌, IfOk, Some};
-ghost use Rattle.bb8_ledger.specs.Acts as acts;
-ghost use Rattle.bb8_core.specs.StateView.{Steps};
-ghost use Rattle.bb8_core.specs.Unfit.{OrComesBack, Stepped};
-ghost use Rattle.bb8_core.specs.StepAnswers.{answer_of_add, answer_of_checked_err, answer_of_give_up, answer_of_put_back, reason_of, GivesBack, GivesBackHeld, GivesBackInvalid, Refuses};
-ghost use Rattle.bb8_lock.specs.Steps.{IsSorted, StartsBy, StepsBy};
+ghost use Rattle.std.specs.Prelude.{◌≡◌, ◌+◌, ◌≤◌};
+ghost use Rattle.bb8_lock.specs.declared.handle.Handle.{Handle as HandleOf};
+ghost use Rattle.bb8_lock.specs.Steps.{StartsBy, StepsBy, Fails, GivesBack, PutsBack};
 ghost use Rattle.bb8_lock.specs.Outcomes.{in_core};
 ghost use Rattle.bb8_core.specs.StepBounds.{goes_out, out_of};
 
@@ -103,9 +100,10 @@ impl<C: Drop, L: Permits> GetHome<C> for Locked<C, L> {
 
     /// Serves a get at once if connections are handed out unchecked and no memory is needed.
     #[inline(always)]
-    fn start(&mut self, at: Moment) -> Result<FirstTry<C, Permit<L>>, Unfit> {
+    fn start(&mut self, at: Moment) -> (Moment, Result<FirstTry<C, Permit<L>>, Unfit>) {
         let Locked { core, rest, .. } = self;
-        match core.serve_at_once(at) {
+        let moment = core.look(at).moment;
+        match core.serve_at_once(moment) {
             Some(
                 AtOnce {
                     get,
@@ -119,12 +117,15 @@ impl<C: Drop, L: Permits> GetHome<C> for Locked<C, L> {
                     place: 0,
                 };
                 let outcome = TryAnswer::Served(key, conn, grant);
-                Ok(FirstTry::Tried(get, hand_out(core, rest, outcome)))
+                (
+                    moment,
+                    Ok(FirstTry::Tried(get, hand_out(core, rest, outcome))),
+                )
             }
             None => {
                 // (a local of its own because of *value-in-memory*)
-                let first = self.start_on(at);
-                first
+                let first = self.start_on(moment);
+                (moment, first)
             }
         }
     }
@@ -161,9 +162,7 @@ impl<C: Drop, L: Permits> GetHome<C> for Locked<C, L> {
         get: GetKey,
         returned: Returned<C, Permit<L>>,
     ) -> Result<CheckedErrAnswer<C>, C>
-        ensures step { Stepped Steps answer_of_checked_err self.old.core at.0
-            (acts.CheckedErr get.number returned.broken) result self.new.core }
-        ensures connection { OrComesBack GivesBackInvalid returned.taken.connection result }
+        ensures { StepsBy {H = HandleOf} self.old.core at (Fails get returned result) self.new.core }
     {
         let Locked { core, rest, .. } = self;
         let Returned { taken, broken } = returned;
@@ -195,11 +194,8 @@ impl<C: Drop, L: Permits> GetHome<C> for Locked<C, L> {
         reason: Reason,
         returned: Returned<C, Permit<L>>,
     ) -> Result<GiveUpAnswer<C>, C>
-        ensures step { Stepped Steps answer_of_give_up self.old.core at.0
-            (acts.GiveUp get.number (reason_of reason) (Some returned.taken.connection)
-            returned.broken) result self.new.core }
-        ensures connection { OrComesBack (λ c. GivesBackHeld (Some c))
-            returned.taken.connection result }
+        ensures { StepsBy {H = HandleOf} self.old.core at (GivesBack get reason returned result)
+            self.new.core }
     {
         let Locked { core, rest, .. } = self;
         let Returned { taken, broken } = returned;
@@ -215,11 +211,7 @@ impl<C: Drop, L: Permits> GetHome<C> for Locked<C, L> {
 
     #[inline(always)]
     fn put_back(&mut self, at: Moment, back: Returned<C, Permit<L>>) -> Result<PutBackAnswer<C>, C>
-        ensures step { Stepped Steps (answer_of_put_back back.taken.key.number)
-            self.old.core at.0
-            (acts.PutBack back.taken.key.number back.taken.connection back.broken)
-            result self.new.core }
-        ensures connection { OrComesBack GivesBack back.taken.connection result }
+        ensures { StepsBy {H = HandleOf} self.old.core at (PutsBack back result) self.new.core }
     {
         let Locked { core, rest, .. } = self;
         let Returned { taken, broken } = back;
@@ -233,12 +225,7 @@ impl<C: Drop, L: Permits> GetHome<C> for Locked<C, L> {
         answer
     }
 
-    fn add(&mut self, at: Moment, conn: C, broken: bool) -> Result<AddAnswer<C>, C>
-        ensures step { Stepped Steps answer_of_add self.old.core at.0
-            (acts.Add conn broken) result self.new.core }
-        ensures connection { OrComesBack Refuses conn result }
-        ensures sorted { IfOk result (IsSorted broken) }
-    {
+    fn add(&mut self, at: Moment, conn: C, broken: bool) -> Result<AddAnswer<C>, C> {
         let Locked { core, .. } = self;
         core.add(at, conn, broken)
     }

@@ -131,13 +131,14 @@ impl<C, S: Locking<T>, T: GetHome<C> + Ends> GetHome<C> for LockScope<'_, S, T> 
     }
 
     #[inline(always)]
-    fn start(&mut self, at: Moment) -> Result<FirstTry<C, T::Permit>, Unfit> {
+    fn start(&mut self, at: Moment) -> (Moment, Result<FirstTry<C, T::Permit>, Unfit>) {
         step!(self, answer = start(at));
-        if let Ok(FirstTry::Tried(_, tried)) = &answer {
+        let (moment, first) = answer;
+        if let Ok(FirstTry::Tried(_, tried)) = &first {
             let (Tried::Served(_, grant) | Tried::Taken(_, grant) | Tried::Waiting(grant)) = tried;
             self.signals.drivers = (grant.count > 0) | self.signals.drivers;
         }
-        answer
+        (moment, first)
     }
 
     #[inline(always)]

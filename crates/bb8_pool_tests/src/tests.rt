@@ -1,4 +1,6 @@
-//! Helpers of the tests.
+//! Helpers of the tests: services whose threads measure what they do.
+ghost use Rattle.std.specs.Prelude.{◌≡◌, true};
+ghost use Rattle.bb8.specs.Settings.{is_lawful};
 
 mod drivers;
 mod refusals;
@@ -6,14 +8,180 @@ mod resting;
 mod serving;
 mod waiting;
 
+use bb8::{Clock, Moment, NopCustomizer, PoolPermits, RunError, Runtime, Service};
 use bb8_trials::hostile::RandomSource;
+use bb8_trials::{Board, Errors, Number, Refused, Server, ServerBuilder, ServerPool, server_on};
+use std::alloc::Global;
 use std::fmt::Debug;
 use std::process::Abort;
+use std::sync::Arc;
 use std::test::Fail;
+use std::thread::{self, Threads};
+use std::time::{CpuClock, Duration};
 
 /// Ends the test if the found value is not the wanted one, and prints both.
 fn assert_equal<T: PartialEq + Debug + Drop>(rt: &impl Abort, found: T, wanted: T) {
     assert_eq!(rt; found, wanted);
+}
+
+/// How often a trial is made until a time is short enough: a machine that pauses spoils some.
+const TRIALS: u32 = 20;
+
+/// Returns the nanoseconds of a reading of the machine's clock or of a processor's; 0 if it failed.
+fn nanos(read: std::io::Result<Duration>) -> u64 {
+    match read {
+        Ok(passed) => u64::try_from(passed.as_nanos()).unwrap_or(u64::MAX),
+        Err(_) => 0,
+    }
+}
+
+/// The counts of a clock, and what a trial sets and notes.
+#[derive(Drop)]
+struct Meter {
+    /// How often the clock was read.
+    readings: Number,
+    /// The processor time of the thread that read it last, in nanoseconds.
+    used: Number,
+    /// How many milliseconds each reading takes.
+    lag: Number,
+    /// When the cause of what is measured occurred, by the machine's clock.
+    caused: Number,
+}
+
+/// The machine's clock, whose readings are counted, and take longer if a trial says so.
+#[derive(Drop)]
+struct MeteredClock<R> {
+    rt: R,
+    meter: Arc<Meter, Global>,
+}
+
+impl<R: Runtime + CpuClock> Clock for MeteredClock<R> {
+    fn now(&self) -> Moment {
+        self.meter.readings.count();
+        self.meter.used.set(nanos(self.rt.thread_cpu_time()));
+        thread::sleep(&self.rt, Duration::from_millis(self.meter.lag.get()));
+        Moment(nanos(self.rt.monotonic()))
+    }
+}
+
+/// What the threads of a trial share.
+#[derive(Drop)]
+struct Bench<R> {
+    rt: R,
+    board: Arc<Board, Global>,
+    meter: Arc<Meter, Global>,
+}
+
+/// The work of a service's threads.
+trait Work<R: Runtime + CpuClock>: Sync {
+    /// Returns three measurements of the thread of this number; None if a get had another result
+    /// than it should.
+    fn run<L: PoolPermits>(
+        &self,
+        bench: &Bench<R>,
+        pool: &ServerPool<MeteredClock<R>, R, L>,
+        thread: usize,
+    ) -> Option<[u64; 3]>;
+}
+
+/// A service whose threads do this work.
+#[derive(Drop)]
+struct Working<R, W> {
+    bench: Bench<R>,
+    work: W,
+}
+
+impl<R: Runtime + CpuClock, W: Work<R>> Service<Server, Errors, NopCustomizer, MeteredClock<R>, R>
+    for Working<R, W> {
+    type Output = Option<[u64; 3]>;
+
+    /// The greatest of each measurement.
+    type Outcome = Option<[u64; 3]>;
+
+    fn begin<L: PoolPermits>(
+        &self,
+        _pool: &ServerPool<MeteredClock<R>, R, L>,
+    ) -> Result<(), Option<[u64; 3]>> {
+        Ok(())
+    }
+
+    fn run<L: PoolPermits>(
+        &self,
+        pool: &ServerPool<MeteredClock<R>, R, L>,
+        thread: usize,
+    ) -> Option<[u64; 3]> {
+        self.work.run(&self.bench, pool, thread)
+    }
+
+    fn end<L: PoolPermits>(
+        &self,
+        _pool: &ServerPool<MeteredClock<R>, R, L>,
+        results: &[Option<[u64; 3]>],
+    ) -> Option<[u64; 3]> {
+        let mut most = [0; 3];
+        for result in results {
+            let [first, second, third] = (*result)?;
+            most = [most[0].max(first), most[1].max(second), most[2].max(third)];
+        }
+        Some(most)
+    }
+}
+
+/// The result of a service, and times in nanoseconds.
+#[derive(Drop)]
+struct Served {
+    answer: Result<Option<[u64; 3]>, RunError<Refused>>,
+    /// How long it took.
+    lasted: u64,
+    /// How long it took from the latest cause on.
+    ended: u64,
+    /// The processor time of the calling thread.
+    used: u64,
+}
+
+/// Returns the measurements; fails if a get had another result than it should.
+fn measured(answer: Result<Option<[u64; 3]>, RunError<Refused>>) -> Result<[u64; 3], Fail> {
+    match answer {
+        Ok(Some(measured)) => Ok(measured),
+        _ => Err(Fail::new("a get had another result than it should")),
+    }
+}
+
+/// Runs a service whose threads do this work.
+fn serve<R: Runtime + CpuClock + Threads, W: Work<R> + Drop>(
+    rt: R,
+    board: &Arc<Board, Global>,
+    builder: ServerBuilder,
+    threads: usize,
+    work: W,
+) -> Result<Served, Fail>
+    requires { is_lawful builder.settings ≡ true }
+{
+    let meter = Meter {
+        readings: Number::new(0),
+        used: Number::new(0),
+        lag: Number::new(0),
+        caused: Number::new(0),
+    };
+    let bench = Bench {
+        rt,
+        board: Arc::try_clone(board)?,
+        meter: Arc::new(rt.alloc(), meter)?,
+    };
+    let clock = MeteredClock {
+        rt,
+        meter: Arc::try_clone(&bench.meter)?,
+    };
+    let service = Working { bench, work };
+    let (begun, idle) = (nanos(rt.monotonic()), nanos(rt.thread_cpu_time()));
+    let answer = builder.serve(server_on(board)?, clock, rt, threads, &service);
+    let ended = nanos(rt.monotonic());
+    Ok(Served {
+        answer,
+        lasted: ended.saturating_sub(begun),
+        ended: ended.saturating_sub(service.bench.meter.caused.get()),
+        used: nanos(rt.thread_cpu_time()).saturating_sub(idle),
+    })
 }
 
 /// The sequence of the seed 1234567 begins with these numbers, which other programs by the same

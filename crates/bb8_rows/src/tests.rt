@@ -82,26 +82,20 @@ const WRONG_LENGTH_TOLD: &[u8] = b"\
     line 12, an event without an answer: wanted nothing, found \"looked 5 open\"\n\
     transcripts 3 answers 4 not run 1 different 3\n";
 
-/// Runs transcripts, and compares the output.
-fn assert_written<R: Runtime + Abort>(rt: R, input: &[u8], wanted: &[u8]) {
-    let mut reader = input;
-    let mut written = Vec::new(rt.alloc());
-    let came = run(rt, &mut reader, &mut written);
-    assert!(&rt; came.is_ok());
-    assert_eq!(&rt; written.as_slice(), wanted);
+/// Runs each of these transcripts, and compares the output.
+fn assert_reported<R: Runtime + Abort>(rt: R) {
+    for (input, wanted) in [
+        (WRONG, WRONG_TOLD),
+        (WRONG_ANSWER, WRONG_ANSWER_TOLD),
+        (WRONG_LENGTH, WRONG_LENGTH_TOLD),
+    ] {
+        let (mut reader, mut written) = (input, Vec::new(rt.alloc()));
+        assert!(&rt; run(rt, &mut reader, &mut written).is_ok());
+        assert_eq!(&rt; written.as_slice(), wanted);
+    }
 }
 
 #[test]
-fn reports_a_different_result(rt: HostRuntime) {
-    assert_written(rt, WRONG, WRONG_TOLD);
-}
-
-#[test]
-fn reports_the_first_wrong_result(rt: HostRuntime) {
-    assert_written(rt, WRONG_ANSWER, WRONG_ANSWER_TOLD);
-}
-
-#[test]
-fn reports_missing_and_surplus_lines(rt: HostRuntime) {
-    assert_written(rt, WRONG_LENGTH, WRONG_LENGTH_TOLD);
+fn reports_each_difference(rt: HostRuntime) {
+    assert_reported(rt);
 }

@@ -1,33 +1,13 @@
--- Messages about bad lines: the first setting that cannot be added, and lines of printable bytes.
-use Rattle.bb8_runner.proofs.Speech.{◌≡◌, ℕ, ◌+◌, ◌<◌, ◌≤◌, true, cond, eqb, List, [], ◌∷◌, length, get_or, drop, map, Option, Some, None, refl, unwrap_or, option_map, sym, ap, subst, ◌∙◌, arith, nat_tests, Bor, at_drop_more, at_drop_all, IsAscii, IsUtf8, Overrides, settings_from}
+-- Messages about bad lines: those of printable bytes.
+use Rattle.bb8_runner.proofs.Speech.{◌≡◌, ℕ, ◌<◌, true, cond, eqb, List, [], ◌∷◌, Option, Some, None, refl, sym, subst, ◌∙◌, arith, nat_tests, IsAscii, IsUtf8}
 use Rattle.std.specs.Prelude.{◌||◌, IfSome}
 use Rattle.std.specs.Char.{is_ascii_graphic}
 use Rattle.std.specs.List.{list_all}
 use Rattle.std.proofs.lemmas.Str.{IsUtf8-from_ascii}
 use Rattle.std.proofs.lemmas.Str.Ascii.{IsAscii-cons, IsAscii-nil}
-use Rattle.bb8_runner.specs.Errors.{with_field, settings_error, setting_error, unlawful_error, is_printable, IsErrorText}
+use Rattle.bb8_runner.specs.Errors.{is_printable, IsErrorText}
 use Rattle.bb8_runner.proofs.Choices.{both}
 use Rattle.bb8_runner.proofs.Texts.{not_true}
-
-module _ (o : Overrides) (xs : List (Bor (List ℕ))) (i : ℕ) (d : Bor (List ℕ)) (h : i < length xs) where
-  rest : List (List ℕ)
-  rest = map (λ x. x.now) (drop (i + 1) xs)
-
-  turn : settings_error o (map (λ x. x.now) (drop i xs)) ≡ unwrap_or (option_map (λ p. settings_error p rest) (with_field o (get_or xs i d).now)) (setting_error (get_or xs i d).now)
-  unfolding settings_error rest
-  turn = at_drop_more (λ ys. settings_error o (map (λ x. x.now) ys)) xs i d h
-
-  pub not_added : None ≡ (with_field o (get_or xs i d).now) → settings_error o (map (λ x. x.now) (drop i xs)) ≡ setting_error (get_or xs i d).now
-  not_added e = turn ∙ ap (λ r. unwrap_or (option_map (λ p. settings_error p rest) r) (setting_error (get_or xs i d).now)) (sym e)
-
-  pub added : (q : Overrides) → Some q ≡ (with_field o (get_or xs i d).now)
-      → settings_error o (map (λ x. x.now) (drop i xs)) ≡ settings_error q (map (λ x. x.now) (drop (i + 1) xs))
-  unfolding rest
-  added q e = turn ∙ ap (λ r. unwrap_or (option_map (λ p. settings_error p rest) r) (setting_error (get_or xs i d).now)) (sym e)
-
-pub all_added : (o : Overrides) (xs : List (Bor (List ℕ))) (i : ℕ) → length xs ≤ i → settings_error o (map (λ x. x.now) (drop i xs)) ≡ unlawful_error (settings_from o)
-unfolding settings_error
-all_added o xs i h = at_drop_all (λ ys. settings_error o (map (λ x. x.now) ys)) xs i h
 
 below : (b : ℕ) → (eqb b 32 || is_ascii_graphic b) ≡ true → b < 128
 below b e = grind (arith, nat_tests)

@@ -1,12 +1,11 @@
 -- What `parse` says of a field that begins with neither `+` nor `0`, and of one that does.
-use Rattle.bb8_runner.proofs.Speech.{◌≡◌, ◌≢◌, ℕ, zero, suc, ◌+◌, ◌^◌, ◌<◌, Bool, true, false, cond, eqb, ltb, ◌&&◌, List, [], ◌∷◌, length, get_or, Option, Some, None, Result, Ok, Err, refl, sym, ap, ◌∙◌, arith, decimal, bytes_eq, then_some, nat_tests, Decides-ltb, bytes_eq-Decides, false≢true}
+use Rattle.bb8_runner.proofs.Speech.{◌≡◌, ◌≢◌, ℕ, zero, suc, ◌+◌, ◌^◌, ◌<◌, Bool, true, false, cond, eqb, ltb, ◌&&◌, List, [], ◌∷◌, length, get_or, Option, Some, None, Result, Ok, Err, refl, sym, ap, ◌∙◌, arith, decimal, bytes_eq, then_some, nat_tests, Decides-ltb, bytes_eq-Decides}
 use Rattle.bb8_runner.specs.Grammar.{number_of}
 use Rattle.std.specs.Int.{IsInRange}
 use Rattle.std.specs.Result.{result_ok, OkIff}
 use Rattle.std.specs.Str.Parse.{ParsesUnsigned, AllDigits, digits_value}
 use Rattle.std.proofs.lemmas.Fmt.{decimal_is_IsNumeral, decimal_nonempty, decimal_digit, first_decimal, parse-decimal, decimal-digits_value}
 use Rattle.std.proofs.lemmas.Str.Parse.{IsNumeralModel, numerals_by_value, tells_digits, parse_plain, digit_at}
-use Rattle.bb8_runner.proofs.Texts.{not_true}
 
 -- The field is a number below 2 ^ k, or None: it is no such number.
 abbrev pub IsNumber : ℕ → List ℕ → Option ℕ → Type 0
@@ -18,12 +17,15 @@ none_where true true v h = absurd (h refl refl)
 none_where _ _ v h = refl
 
 -- there is one such answer
-pub number_is : (f : List ℕ) (o : Option ℕ) → IsNumber 64 f o → o ≡ number_of 64 f
+number_is_within : (k : ℕ) → ((n : ℕ) → n < 2 ^ k → n < 2 ^ 64) → (f : List ℕ) (o : Option ℕ) → IsNumber k f o → o ≡ number_of k f
 unfolding number_of
-number_is f (Some n) h =
-    let v : digits_value 10 f ≡ n = ap (digits_value 10) h.1 ∙ (decimal_is_IsNumeral n h.0).1 in
-    rw v (rw ((bytes_eq-Decides f (decimal n)).1 h.1, (Decides-ltb n (2 ^ 64)).1 h.0) refl)
-number_is f None h = sym (none_where _ _ _ (λ a b. h (digits_value 10 f) ((Decides-ltb _ _).0 b) ((bytes_eq-Decides _ _).0 a)))
+number_is_within k wide f (Some n) h =
+    let v : digits_value 10 f ≡ n = ap (digits_value 10) h.1 ∙ (decimal_is_IsNumeral n (wide n h.0)).1 in
+    rw v (rw ((bytes_eq-Decides f (decimal n)).1 h.1, (Decides-ltb n (2 ^ k)).1 h.0) refl)
+number_is_within k wide f None h = sym (none_where _ _ _ (λ a b. h (digits_value 10 f) ((Decides-ltb _ _).0 b) ((bytes_eq-Decides _ _).0 a)))
+
+pub number_is : (f : List ℕ) (o : Option ℕ) → IsNumber 64 f o → o ≡ number_of 64 f
+number_is f o h = number_is_within 64 (λ n small. small) f o h
 
 own : IsNumeralModel (AllDigits 10) (digits_value 10)
 own = numerals_by_value (AllDigits 10) tells_digits
@@ -62,33 +64,6 @@ zero_first (b ∷ x ∷ bs) rest true e l z = absurd (grind (arith, nat_tests))
 zero_first (b ∷ x ∷ bs) rest false e l z = λ n small w.
     omega (arith, zero_is_alone n small (sym (ap (λ y. get_or y 0 0) w) ∙ z), ap length w)
 
--- the smaller numbers are among the greater
-tests_none : (a b c : Bool) (v : ℕ) → (c ≡ true → b ≡ true) → ◌≡◌ {A = Option ℕ} None (cond (a && b) (Some v) None) → ◌≡◌ {A = Option ℕ} None (cond (a && c) (Some v) None)
-tests_none true true c v h e = cc
-tests_none true false true v h e = absurd (false≢true (h refl))
-tests_none true false false v h e = refl
-tests_none false b c v h e = refl
-
-wider : (v : ℕ) → ltb v (2 ^ 32) ≡ true → ltb v (2 ^ 64) ≡ true
-wider v h = (Decides-ltb v (2 ^ 64)).1 (omega (arith, (Decides-ltb v (2 ^ 32)).0 h))
-
-pub small_none : (f : List ℕ) → None ≡ number_of 64 f → None ≡ number_of 32 f
-unfolding number_of
-small_none f e = tests_none (bytes_eq f (decimal (digits_value 10 f))) (ltb (digits_value 10 f) (2 ^ 64)) (ltb (digits_value 10 f) (2 ^ 32)) (digits_value 10 f) (wider (digits_value 10 f)) e
-
-tests_some : {E : Type 0} (a b : Bool) (v n : ℕ) (r : Result ℕ E) → Some n ≡ cond (a && b) (Some v) None → OkIff r (n < 2 ^ 32) n → result_ok r ≡ cond (a && ltb v (2 ^ 32)) (Some v) None
-tests_some true true v n (Ok x) e h =
-    let same : n ≡ v = cc in
-    rw ((Decides-ltb v (2 ^ 32)).1 (omega (arith, h.0))) (ap Some (h.1 ∙ same))
-tests_some true true v n (Err x) e h =
-    let same : n ≡ v = cc in
-    rw (not_true (ltb v (2 ^ 32)) (λ w. h (omega (arith, (Decides-ltb v (2 ^ 32)).0 w)))) refl
-tests_some _ _ v n r e h = cc
-
-pub small_some : {E : Type 0} (f : List ℕ) (n : ℕ) (r : Result ℕ E) → Some n ≡ number_of 64 f → OkIff r (n < 2 ^ 32) n → result_ok r ≡ number_of 32 f
-unfolding number_of
-small_some f n r e h = tests_some (bytes_eq f (decimal (digits_value 10 f))) (ltb (digits_value 10 f) (2 ^ 64)) (digits_value 10 f) n r e h
-
 -- a number is read from what it prints as, and from nothing else
 pub number_read : (k n : ℕ) → n < 2 ^ k → n < 2 ^ 64 → number_of k (decimal n) ≡ Some n
 unfolding number_of
@@ -106,3 +81,17 @@ number_spelled k f n e =
     let h = number_pick (bytes_eq f (decimal (digits_value 10 f))) (ltb (digits_value 10 f) (2 ^ k)) (digits_value 10 f) n e in
     let small = (Decides-ltb (digits_value 10 f) (2 ^ k)).0 h.1 in
     (omega (arith, small, h.2), (bytes_eq-Decides f (decimal (digits_value 10 f))).0 h.0 ∙ ap decimal h.2)
+
+-- the smaller numbers are among the greater
+small_is : (f : List ℕ) (o : Option ℕ) → IsNumber 32 f o → o ≡ number_of 32 f
+small_is f o h = number_is_within 32 (λ n small. omega (arith, small)) f o h
+
+pub small_none : (f : List ℕ) → None ≡ number_of 64 f → None ≡ number_of 32 f
+small_none f e = small_is f None (λ n small w. let r = number_read 64 n (omega (arith, small)) (omega (arith, small)) in absurd (cc (e, ap (number_of 64) w, r)))
+
+pub small_some : {E : Type 0} (f : List ℕ) (n : ℕ) (r : Result ℕ E) → Some n ≡ number_of 64 f → OkIff r (n < 2 ^ 32) n → result_ok r ≡ number_of 32 f
+small_some f n (Ok x) e h = small_is f (Some x) (omega (arith, h.0, h.1), (number_spelled 64 f n (sym e)).1 ∙ ap decimal (sym h.1))
+small_some f n (Err x) e h = small_is f None (λ m small w.
+    let r = number_read 64 m (omega (arith, small)) (omega (arith, small)) in
+    let same : n ≡ m = cc (e, ap (number_of 64) w, r) in
+    h (omega (arith, small, same)))

@@ -1,5 +1,5 @@
 -- What is printed of an answer and of a state has no byte below a space, so no line feed.
-use Rattle.bb8_runner.proofs.Speech.{◌≡◌, ◌≢◌, ℕ, Bool, true, false, cond, eqb, List, [], ◌++◌, Option, Some, None, refl, arith, codes, decimal, All, All-nil, All-weaker, Counts, Figures, figures_of, Grant, grant_text, notifies_text, sizes_text, gets_text, opened_text, closed_text, gone_text, state_text, answer_text}
+use Rattle.bb8_runner.proofs.Speech.{◌≡◌, ◌≢◌, ℕ, Bool, true, false, cond, eqb, List, [], ◌++◌, Option, Some, None, refl, arith, codes, decimal, All, All-nil, All-weaker, Counts, Figures, figures_of, Grant, grant_text, notifies_text, gets_text, connections_text, gone_text, state_text, answer_text}
 use Rattle.bb8_core.specs.declared.replay.events.Answer.{Answer}
 use Rattle.bb8_core.specs.declared.replay.events.Answer.TheVariants.{Begun, Served, Taken, Waiting, Kept, Closed, GaveUp, Granted, Claimed, Entered, Late, Added, Reaped, Shown, Left, Looked}
 use Rattle.bb8_runner.proofs.Bytes.{IsOver, AreOver, over, are_over, decimal_over, joined}
@@ -40,10 +40,10 @@ unfolding over
 gets_visible c = word (codes " started ") _ refl (after c.started _ (word (codes " direct ") _ refl (after c.direct _ (word (codes " waited ") _ refl (after c.waited _
     (word (codes " timed_out ") _ refl (after c.timed_out _ (word (codes " cancelled ") _ refl (number c.cancelled)))))))))
 
-closed_visible : (c : Counts) → AreVisible (closed_text c)
+connections_visible : (c : Counts) → AreVisible (connections_text c)
 unfolding over
-closed_visible c = word (codes " broken ") _ refl (after c.broken _ (word (codes " invalid ") _ refl (after c.invalid _ (word (codes " lifetime ") _ refl (after c.max_lifetime _
-    (word (codes " idle_timeout ") _ refl (number c.idle_timeout)))))))
+connections_visible c = word (codes " wait_us ") _ refl (after _ _ (word (codes " created ") _ refl (after c.created _ (word (codes " broken ") _ refl (after c.broken _
+    (word (codes " invalid ") _ refl (after c.invalid _ (word (codes " lifetime ") _ refl (after c.max_lifetime _ (word (codes " idle_timeout ") _ refl (number c.idle_timeout)))))))))))
 
 gone_visible : (c : Counts) → AreVisible (gone_text c)
 unfolding over
@@ -53,11 +53,8 @@ gone_visible c = joined 31 _ _
 
 state_visible : (f : Figures) → AreVisible (state_text f)
 unfolding over
-state_visible f = joined 31 (sizes_text f) _
-    (word (codes "state connections ") _ refl (after f.connections _ (word (codes " idle ") _ refl (number f.idle))))
-    (joined 31 (gets_text f.counts) _ (gets_visible f.counts) (joined 31 (opened_text f.counts) _
-    (word (codes " wait_us ") _ refl (after _ _ (word (codes " created ") _ refl (number f.counts.created))))
-    (joined 31 (closed_text f.counts) _ (closed_visible f.counts) (gone_visible f.counts))))
+state_visible f = word (codes "state connections ") _ refl (after f.connections _ (word (codes " idle ") _ refl (after f.idle _
+    (joined 31 (gets_text f.counts) _ (gets_visible f.counts) (joined 31 (connections_text f.counts) _ (connections_visible f.counts) (gone_visible f.counts))))))
 
 answer_visible : (a : Answer) → AreVisible (answer_text a)
 unfolding over

@@ -1,8 +1,12 @@
 -- The fields of good lines hold no space: a line of them is text, and is cut just between them.
-use Rattle.bb8_runner.proofs.Speech.{◌≡◌, ℕ, ◌<◌, Bool, true, false, eqb, List, [], ◌∷◌, Option, Some, None, refl, sym, ap, subst, ◌∙◌, arith, codes, decimal, All, join_with_byte, IsAscii, IsUtf8, Decides-eqb, All-weaker, Act, Try, CheckedOk, CheckedErr, GiveUp, PutBack, Detach, Evict, Fill, Opened, Failed, Add, TimedOut, Event, fields_of, event_of, verb_of, args_of, flag, event_fields, event_line, FitsEvent}
+use Rattle.bb8_runner.proofs.Speech.{◌≡◌, ℕ, ◌<◌, Bool, true, false, eqb, List, [], ◌∷◌, Option, Some, None, Result, Ok, Err, Message, refl, sym, ap, subst, ◌∙◌, arith, codes, decimal, All, join_with_byte, IsAscii, IsUtf8, Decides-eqb, All-weaker, ◌++◌, map, Act, TimedOut, Event, fields_of, event_of, words_of, act_fields, flag, event_fields, event_line, FitsEvent}
 use Rattle.std.proofs.lemmas.List.Splits.{join_with_byte-slice_split, slice_split_at, slice_split_none}
 use Rattle.std.proofs.lemmas.Str.{IsUtf8-from_ascii, IsAscii-append}
 use Rattle.std.proofs.lemmas.Str.Ascii.{IsAscii-cons, IsAscii-nil, IsAscii-from_all}
+use Rattle.std.specs.Option.{option_to_list}
+use Rattle.std.specs.Result.{result_ok}
+use Rattle.bb8_core.specs.declared.replay.events.Act.TheVariants as kind
+use Rattle.bb8_runner.specs.Grammar.{event_of_fields}
 use Rattle.bb8_runner.proofs.Bytes.{IsOver, AreOver, over, are_over, decimal_over}
 use Rattle.bb8_runner.proofs.Spelled.{event_read, event_spelled}
 use Rattle.bb8_runner.proofs.Texts.{not_true}
@@ -33,50 +37,37 @@ words_are_text line xs h e =
     let a : IsAscii (join_with_byte 32 (fields_of line)) = subst (λ fs. IsAscii (join_with_byte 32 fs)) (sym e) (line_ascii xs h) in
     IsUtf8-from_ascii line (subst IsAscii (join_with_byte-slice_split 32 line) a)
 
-verb_word : (a : Act) → AreOver 32 (verb_of a)
+verb_word : (a : Act) → AreOver 32 (words_of a).verb
 unfolding over
-verb_word (GiveUp g TimedOut b) = are_over 32 (codes "timeout") refl
-verb_word a = are_over 32 (verb_of a) refl
+verb_word (kind.GiveUp g TimedOut b) = are_over 32 (codes "timeout") refl
+verb_word a = are_over 32 (words_of a).verb refl
 
-number_word : (n : ℕ) → AreOver 32 (decimal n)
-number_word n = decimal_over 32 n (omega arith)
+number_words : (o : Option ℕ) (rest : List (List ℕ)) → AreWords rest → AreWords (map decimal (option_to_list o) ++ rest)
+number_words None rest h = h
+number_words (Some n) rest h = (decimal_over 32 n (omega arith), h)
 
-flag_words : (word : List ℕ) (b : Bool) → AreOver 32 word → AreWords (flag word b)
-flag_words word true h = (h, tt)
-flag_words word false h = tt
-
-args_words : (a : Act) → AreWords (args_of a)
-unfolding over
-args_words (Try g) = (number_word g, tt)
-args_words (CheckedOk g) = (number_word g, tt)
-args_words (CheckedErr g b) = (number_word g, flag_words (codes "broken") b (are_over 32 (codes "broken") refl))
-args_words (GiveUp g why b) = (number_word g, flag_words (codes "broken") b (are_over 32 (codes "broken") refl))
-args_words (PutBack k b) = (number_word k, flag_words (codes "broken") b (are_over 32 (codes "broken") refl))
-args_words (Detach k) = (number_word k, tt)
-args_words (Evict k) = (number_word k, tt)
-args_words (Fill c) = flag_words (codes "claimed") c (are_over 32 (codes "claimed") refl)
-args_words (Opened a) = (number_word a, tt)
-args_words (Failed a) = (number_word a, tt)
-args_words (Add b) = flag_words (codes "broken") b (are_over 32 (codes "broken") refl)
-args_words _ = tt
+flag_words : (word : List ℕ) (b : Bool) (rest : List (List ℕ)) → AreOver 32 word → AreWords rest → AreWords (flag word b rest)
+flag_words word true rest h more = (h, more)
+flag_words word false rest h more = more
 
 event_words : (e : Event) → AreWords (event_fields e)
-event_words e = (number_word e.at.0, (verb_word e.act, args_words e.act))
+unfolding over
+event_words e =
+    let w = words_of e.act in
+    let claimed = flag_words (codes "claimed") w.claimed [] (are_over 32 (codes "claimed") refl) tt in
+    (decimal_over 32 e.at.0 (omega arith), (verb_word e.act, number_words w.number _ (flag_words (codes "broken") w.broken _ (are_over 32 (codes "broken") refl) claimed)))
 
-none_unless : (line : List ℕ) (o : Option Event) → event_of line ≡ o → (IsUtf8 line → ⊥) → None ≡ o
-none_unless line None e h = refl
-none_unless line (Some event) e h = absurd (h (words_are_text line (event_fields event) (event_words event) (event_spelled (fields_of line) event e).spelled))
+event_or : (line : List ℕ) (r : Result Event Message) → event_of_fields (fields_of line) ≡ r → (IsUtf8 line → ⊥) → None ≡ result_ok r
+event_or line (Ok e) w h = absurd (h (words_are_text line (event_fields e) (event_words e) (event_spelled (fields_of line) e (ap result_ok w)).spelled))
+event_or line (Err m) w h = refl
 
 -- what is no text is no event
 pub no_event : (line : List ℕ) → (IsUtf8 line → ⊥) → None ≡ event_of line
-no_event line h = none_unless line (event_of line) refl h
+no_event line h = event_or line (event_of_fields (fields_of line)) refl h
 
 -- an event's own line is read as that event
 pub own_line : (e : Event) → FitsEvent e → event_of (event_line e) ≡ Some e
-own_line e h = event_read (fields_of (event_line e)) e (record { fits = h; spelled = fields_of_words (decimal e.at.0) (verb_of e.act ∷ args_of e.act) (event_words e) })
-
-one_event : (line : List ℕ) (e f : Event) → event_of line ≡ Some e → event_of line ≡ Some f → e ≡ f
-one_event line e f h g = cc
+own_line e h = event_read (fields_of (event_line e)) e (record { fits = h; spelled = fields_of_words (decimal e.at.0) (act_fields e.act) (event_words e) })
 
 pub same_event : (e f : Event) → FitsEvent e → FitsEvent f → event_line e ≡ event_line f → e ≡ f
-same_event e f h g w = one_event (event_line e) e f (own_line e h) (ap event_of w ∙ own_line f g)
+same_event e f h g w = cc (own_line e h, ap event_of w, own_line f g)

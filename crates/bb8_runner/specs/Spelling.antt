@@ -1,65 +1,69 @@
 -- The spelling of events and configurations: each line is one of these, and no other line is
 -- accepted.
-use Rattle.std.specs.Prelude.{◌≡◌, ◌≢◌, ℕ, ◌^◌, ◌<◌, List, [], ◌∷◌, ◌++◌, map, ⊤, Bool, true, false, Option, Some, None, codes, decimal}
-use Rattle.bb8_runner.specs.Words.{join_with_byte, Act, Begin, Try, CheckedOk, CheckedErr, GiveUp, PutBack, Detach, Evict, Fill, Ask, Claim, Opened, Failed, Add, Reap, Retire, State, Join, Leave, Close, Look, TimedOut, Cancelled, Event, QueueStrategy, Fifo, Lifo, Settings, default_settings, is_lawful}
+use Rattle.std.specs.Prelude.{◌≡◌, ℕ, ◌^◌, ◌<◌, List, [], ◌∷◌, ◌++◌, map, ⊤, Bool, true, false, Option, Some, None, IfSome, option_to_list, codes, decimal}
+use Rattle.bb8_runner.specs.Words.{bytes_eq, join_with_byte, list_any, Act, TimedOut, Cancelled, Event, QueueStrategy, Fifo, Lifo, Settings, default_settings, is_lawful}
+use Rattle.bb8_core.specs.declared.replay.events.Act.TheVariants as kind
 
--- the verb of an event
-abbrev pub verb_of : Act → List ℕ
-verb_of Begin = codes "begin"
-verb_of (Try g) = codes "try"
-verb_of (CheckedOk g) = codes "ok"
-verb_of (CheckedErr g b) = codes "err"
-verb_of (GiveUp g TimedOut b) = codes "timeout"
-verb_of (GiveUp g Cancelled b) = codes "cancel"
-verb_of (PutBack k b) = codes "return"
-verb_of (Detach k) = codes "detach"
-verb_of (Evict k) = codes "evict"
-verb_of (Fill c) = codes "fill"
-verb_of Ask = codes "ask"
-verb_of Claim = codes "claim"
-verb_of (Opened a) = codes "open"
-verb_of (Failed a) = codes "fail"
-verb_of (Add b) = codes "add"
-verb_of Reap = codes "reap"
-verb_of Retire = codes "retire"
-verb_of State = codes "state"
-verb_of Join = codes "join"
-verb_of Leave = codes "leave"
-verb_of Close = codes "close"
-verb_of Look = codes "look"
+-- the words of an act: a verb, a number if there is one, and whether `broken` or `claimed` follows
+pub record Words : Type 0 where
+  pub verb : List ℕ
+  pub number : Option ℕ
+  pub broken : Bool
+  pub claimed : Bool
 
--- the word if it is set
-abbrev pub flag : List ℕ → Bool → List (List ℕ)
-flag word true = word ∷ []
-flag word false = []
+-- a verb alone
+abbrev pub plain : List ℕ → Words
+plain verb = record { verb = verb; number = None; broken = false; claimed = false }
 
--- the arguments after the verb
-abbrev pub args_of : Act → List (List ℕ)
-args_of (Try g) = decimal g ∷ []
-args_of (CheckedOk g) = decimal g ∷ []
-args_of (CheckedErr g b) = decimal g ∷ flag (codes "broken") b
-args_of (GiveUp g why b) = decimal g ∷ flag (codes "broken") b
-args_of (PutBack k b) = decimal k ∷ flag (codes "broken") b
-args_of (Detach k) = decimal k ∷ []
-args_of (Evict k) = decimal k ∷ []
-args_of (Fill c) = flag (codes "claimed") c
-args_of (Opened a) = decimal a ∷ []
-args_of (Failed a) = decimal a ∷ []
-args_of (Add b) = flag (codes "broken") b
-args_of _ = []
+-- a verb, and a number after it
+abbrev pub numbered : List ℕ → ℕ → Words
+numbered verb n = record { verb = verb; number = Some n; broken = false; claimed = false }
+
+-- a verb and a number, and whether `broken` follows
+abbrev pub flagged : List ℕ → ℕ → Bool → Words
+flagged verb n broken = record { verb = verb; number = Some n; broken = broken; claimed = false }
+
+-- the words of each act
+abbrev pub words_of : Act → Words
+words_of kind.Begin = plain (codes "begin")
+words_of (kind.Try g) = numbered (codes "try") g
+words_of (kind.CheckedOk g) = numbered (codes "ok") g
+words_of (kind.CheckedErr g b) = flagged (codes "err") g b
+words_of (kind.GiveUp g TimedOut b) = flagged (codes "timeout") g b
+words_of (kind.GiveUp g Cancelled b) = flagged (codes "cancel") g b
+words_of (kind.PutBack k b) = flagged (codes "return") k b
+words_of (kind.Detach k) = numbered (codes "detach") k
+words_of (kind.Evict k) = numbered (codes "evict") k
+words_of (kind.Fill c) = record { verb = codes "fill"; number = None; broken = false; claimed = c }
+words_of kind.Ask = plain (codes "ask")
+words_of kind.Claim = plain (codes "claim")
+words_of (kind.Opened a) = numbered (codes "open") a
+words_of (kind.Failed a) = numbered (codes "fail") a
+words_of (kind.Add b) = record { verb = codes "add"; number = None; broken = b; claimed = false }
+words_of kind.Reap = plain (codes "reap")
+words_of kind.Retire = plain (codes "retire")
+words_of kind.State = plain (codes "state")
+words_of kind.Join = plain (codes "join")
+words_of kind.Leave = plain (codes "leave")
+words_of kind.Close = plain (codes "close")
+words_of kind.Look = plain (codes "look")
+
+-- the word before others, if it is set
+abbrev pub flag : List ℕ → Bool → List (List ℕ) → List (List ℕ)
+flag word true others = word ∷ others
+flag word false others = others
+
+-- the fields after the verb
+abbrev pub args_of : Words → List (List ℕ)
+args_of w = map decimal (option_to_list w.number) ++ flag (codes "broken") w.broken (flag (codes "claimed") w.claimed [])
+
+-- the verb and its arguments
+abbrev pub act_fields : Act → List (List ℕ)
+act_fields a = (words_of a).verb ∷ args_of (words_of a)
 
 -- whether the number in an act is a u64
 abbrev pub FitsAct : Act → Type 0
-FitsAct (Try g) = g < 2 ^ 64
-FitsAct (CheckedOk g) = g < 2 ^ 64
-FitsAct (CheckedErr g b) = g < 2 ^ 64
-FitsAct (GiveUp g why b) = g < 2 ^ 64
-FitsAct (PutBack k b) = k < 2 ^ 64
-FitsAct (Detach k) = k < 2 ^ 64
-FitsAct (Evict k) = k < 2 ^ 64
-FitsAct (Opened a) = a < 2 ^ 64
-FitsAct (Failed a) = a < 2 ^ 64
-FitsAct _ = ⊤
+FitsAct a = IfSome (words_of a).number (λ n. n < 2 ^ 64)
 
 -- whether the moment and the number in an event are u64
 pub record FitsEvent (e : Event) : Type 0 where
@@ -68,7 +72,7 @@ pub record FitsEvent (e : Event) : Type 0 where
 
 -- the fields of an event's line: its moment, its verb and its arguments
 abbrev pub event_fields : Event → List (List ℕ)
-event_fields e = decimal e.at.0 ∷ verb_of e.act ∷ args_of e.act
+event_fields e = decimal e.at.0 ∷ act_fields e.act
 
 -- whether the fields spell the event
 pub record SpellsEvent (fields : List (List ℕ)) (e : Event) : Type 0 where
@@ -160,13 +164,12 @@ AllFit (x ∷ xs) = FitsSetting x × AllFit xs
 
 -- whether no setting of the list has the name
 abbrev pub LacksName : List ℕ → List Setting → Type 0
-LacksName name [] = ⊤
-LacksName name (x ∷ xs) = (name ≢ name_of x) × LacksName name xs
+LacksName name xs = list_any (λ x. bytes_eq (name_of x) name) xs ≡ false
 
--- whether no two settings have the same name
-abbrev pub AreDistinct : List Setting → Type 0
-AreDistinct [] = ⊤
-AreDistinct (x ∷ xs) = LacksName (name_of x) xs × AreDistinct xs
+-- whether each of these settings, which come after others, has another name than those before it
+abbrev pub AreDistinct : List Setting → List Setting → Type 0
+AreDistinct before [] = ⊤
+AreDistinct before (x ∷ xs) = LacksName (name_of x) before × AreDistinct (before ++ x ∷ []) xs
 
 -- a configuration with one setting changed
 abbrev pub made : Settings → Setting → Settings
@@ -191,7 +194,7 @@ all_made s (x ∷ xs) = all_made (made s x) xs
 pub record SpellsSettings (fields : List (List ℕ)) (s : Settings) : Type 0 where
   pub chosen : List Setting
   pub fit : AllFit chosen
-  pub distinct : AreDistinct chosen
+  pub distinct : AreDistinct [] chosen
   pub spelled : fields ≡ codes "config" ∷ map setting_field chosen
   pub settings : s ≡ all_made default_settings chosen
   pub lawful : is_lawful s ≡ true

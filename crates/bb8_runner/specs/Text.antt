@@ -14,23 +14,16 @@ abbrev pub notifies_text : Option ℕ → List ℕ
 notifies_text None = []
 notifies_text (Some g) = codes " notifies " ++ decimal g
 
--- the counts of connections and of idle ones
-abbrev pub sizes_text : Figures → List ℕ
-sizes_text f = codes "state connections " ++ (decimal f.connections ++ (codes " idle " ++ decimal f.idle))
-
 -- the counts of gets
 abbrev pub gets_text : Counts → List ℕ
 gets_text c = codes " started " ++ (decimal c.started ++ (codes " direct " ++ (decimal c.direct ++ (codes " waited " ++ (decimal c.waited
     ++ (codes " timed_out " ++ (decimal c.timed_out ++ (codes " cancelled " ++ decimal c.cancelled))))))))
 
--- the wait time in whole microseconds, and the count of opened connections
-abbrev pub opened_text : Counts → List ℕ
-opened_text c = codes " wait_us " ++ (decimal (c.wait_time / 1_000) ++ (codes " created " ++ decimal c.created))
-
--- the counts of closed connections, by reason
-abbrev pub closed_text : Counts → List ℕ
-closed_text c = codes " broken " ++ (decimal c.broken ++ (codes " invalid " ++ (decimal c.invalid ++ (codes " lifetime " ++ (decimal c.max_lifetime
-    ++ (codes " idle_timeout " ++ decimal c.idle_timeout))))))
+-- the wait time in whole microseconds, and the counts of opened connections and of closed ones, by
+-- reason
+abbrev pub connections_text : Counts → List ℕ
+connections_text c = codes " wait_us " ++ (decimal (c.wait_time / 1_000) ++ (codes " created " ++ (decimal c.created ++ (codes " broken " ++ (decimal c.broken
+    ++ (codes " invalid " ++ (decimal c.invalid ++ (codes " lifetime " ++ (decimal c.max_lifetime ++ (codes " idle_timeout " ++ decimal c.idle_timeout))))))))))
 
 -- ` retired N` if retired ones were closed, and ` detached N` if any were detached
 abbrev pub gone_text : Counts → List ℕ
@@ -39,7 +32,8 @@ gone_text c = (if c.retired == 0 then [] else codes " retired " ++ decimal c.ret
 
 -- the state line without its line feed
 abbrev pub state_text : Figures → List ℕ
-state_text f = sizes_text f ++ (gets_text f.counts ++ (opened_text f.counts ++ (closed_text f.counts ++ gone_text f.counts)))
+state_text f = codes "state connections " ++ (decimal f.connections ++ (codes " idle " ++ (decimal f.idle
+    ++ (gets_text f.counts ++ (connections_text f.counts ++ gone_text f.counts)))))
 
 -- a result without its line feed
 abbrev pub answer_text : Answer → List ℕ

@@ -3,9 +3,8 @@ pub use Rattle.std.specs.Str.{bytes_eq}
 pub use Rattle.std.specs.Char.{is_ascii_graphic}
 pub use Rattle.std.specs.Option.{option_or}
 pub use Rattle.bb8_runner.specs.declared.threads.arguments.Mode.TheVariants.{Script, Threads}
-pub use Rattle.std.specs.List.{slice_split, before_first, after_first, position_or_len, join_with_byte, sum_by, list_all}
+pub use Rattle.std.specs.List.{slice_split, before_first, after_first, position_or_len, join_with_byte, sum_by, list_all, list_any}
 pub use Rattle.bb8_core.specs.declared.replay.events.Act.{Act}
-pub use Rattle.bb8_core.specs.declared.replay.events.Act.TheVariants.{Begin, Try, CheckedOk, CheckedErr, GiveUp, PutBack, Detach, Evict, Fill, Ask, Claim, Opened, Failed, Add, Reap, Retire, State, Join, Leave, Close, Look}
 pub use Rattle.bb8_types.specs.declared.reasons.Reason.TheVariants.{TimedOut, Cancelled}
 pub use Rattle.bb8_core.specs.declared.replay.events.Event.{Event}
 pub use Rattle.bb8_types.specs.declared.api.configuration.QueueStrategy.{QueueStrategy}

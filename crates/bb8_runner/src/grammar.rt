@@ -1,11 +1,17 @@
-//! The grammar of a script's lines.
-ghost use Rattle.std.specs.Prelude.{◌≡◌, map, IfOk, List, ℕ};
-ghost use Rattle.bb8_runner.specs.Grammar.{number_of, plain_act, worded_act, numbered_act, broken_act, flagged_act, act_of, event_of_fields, event_of, fields_of};
+//! The grammar of a script's events. A bad one has a message.
+ghost use Rattle.std.specs.Prelude.{◌≡◌, map, IfOk, option_map};
+ghost use Rattle.bb8_runner.specs.Grammar.{said, found, number_of, plain_acts, worded_act, numbered_acts, flagged_acts, act_of, expected_after, verb_error, act_error, act_after, event_of_fields, event_of, fields_of};
 
 use bb8_core::api::Moment;
 use bb8_core::replay::{Act, Event, Reason};
 use std::alloc::{AllocError, Global};
 use std::str;
+
+/// A text, and the word of the line that it is about.
+pub(crate) type Message<'a> = (&'a str, &'a str);
+
+pub(crate) const EXPECTED_NUMBER: &str =
+    "expected a number below 2^64 without leading zeros, found";
 
 /// Parses a number: decimal digits without sign or leading zero, at most
 /// 18,446,744,073,709,551,615. Returns None for any other field.
@@ -32,8 +38,8 @@ pub fn small_number(field: &str) -> Option<u32>
 }
 
 /// Parses the verbs without argument.
-pub(crate) fn plain_act(verb: &str) -> Option<Act>
-    ensures { result ≡ plain_act verb.now }
+fn plain_act(verb: &str) -> Option<Act>
+    ensures { result ≡ found verb.now plain_acts }
 {
     match verb {
         "begin" => Some(Act::Begin),
@@ -63,46 +69,32 @@ fn worded_act(verb: &str, word: &str) -> Option<Act>
     }
 }
 
+/// Parses the verbs with a number after them, and `broken` or not.
+fn flagged_act(verb: &str, n: u64, broken: bool) -> Option<Act>
+    ensures { result ≡ found verb.now (flagged_acts n broken) }
+{
+    match verb {
+        "err" => Some(Act::CheckedErr(n, broken)),
+        "timeout" => Some(Act::GiveUp(n, Reason::TimedOut, broken)),
+        "cancel" => Some(Act::GiveUp(n, Reason::Cancelled, broken)),
+        "return" => Some(Act::PutBack(n, broken)),
+        _ => None,
+    }
+}
+
 /// Parses the verbs with a number after them.
-pub(crate) fn numbered_act(verb: &str, n: u64) -> Option<Act>
-    ensures { result ≡ numbered_act verb.now n }
+fn numbered_act(verb: &str, n: u64) -> Option<Act>
+    ensures { result ≡ found verb.now (numbered_acts n) }
 {
     match verb {
         "try" => Some(Act::Try(n)),
         "ok" => Some(Act::CheckedOk(n)),
-        "err" => Some(Act::CheckedErr(n, false)),
-        "timeout" => Some(Act::GiveUp(n, Reason::TimedOut, false)),
-        "cancel" => Some(Act::GiveUp(n, Reason::Cancelled, false)),
-        "return" => Some(Act::PutBack(n, false)),
         "detach" => Some(Act::Detach(n)),
         "evict" => Some(Act::Evict(n)),
         "open" => Some(Act::Opened(n)),
         "fail" => Some(Act::Failed(n)),
-        _ => None,
+        _ => flagged_act(verb, n, false),
     }
-}
-
-/// Parses the verbs with a number and the word `broken` after them.
-fn broken_act(verb: &str, n: u64) -> Option<Act>
-    ensures { result ≡ broken_act verb.now n }
-{
-    match verb {
-        "err" => Some(Act::CheckedErr(n, true)),
-        "timeout" => Some(Act::GiveUp(n, Reason::TimedOut, true)),
-        "cancel" => Some(Act::GiveUp(n, Reason::Cancelled, true)),
-        "return" => Some(Act::PutBack(n, true)),
-        _ => None,
-    }
-}
-
-/// Parses the verbs with a number and a word after them.
-fn flagged_act(verb: &str, arg: &str, word: &str) -> Option<Act>
-    ensures { result ≡ flagged_act verb.now arg.now word.now }
-{
-    if word != "broken" {
-        return None;
-    }
-    broken_act(verb, number(arg)?)
 }
 
 #[tactic(auto, unfolding(crate::specs::Grammar::act_of))]
@@ -115,21 +107,80 @@ fn act_of(verb: &str, args: &[&str]) -> Option<Act>
             Some(n) => numbered_act(verb, n),
             None => worded_act(verb, arg),
         },
-        [arg, word] => flagged_act(verb, arg, word),
+        [arg, word] if *word == "broken" => flagged_act(verb, number(arg)?, true),
         _ => None,
     }
 }
 
-#[tactic(auto, unfolding(crate::specs::Grammar::event_of_fields))]
-fn event_of_fields(fields: &[&str]) -> Option<Event>
-    ensures { result ≡ event_of_fields (map (λ x. x.now) fields.now) }
+/// Returns the text about the arguments of a verb. None if there is no such verb.
+fn expected_after(verb: &str) -> Option<&'static str>
+    ensures { option_map (λ x. x.now) result ≡ expected_after verb.now }
 {
-    let [moment, verb, args @ ..] = fields else {
-        return None;
+    match verb {
+        "try" | "ok" => Some("expected only the number of a get after"),
+        "err" | "timeout" | "cancel" => {
+            Some("expected the number of a get and at most \"broken\" after")
+        }
+        "return" => Some("expected the number of a connection and at most \"broken\" after"),
+        "detach" | "evict" => Some("expected only the number of a connection after"),
+        "open" | "fail" => Some("expected only the number of an approval after"),
+        "fill" => Some("expected at most \"claimed\" after"),
+        "add" => Some("expected at most \"broken\" after"),
+        _ if plain_act(verb).is_some() => Some("expected nothing after"),
+        _ => None,
+    }
+}
+
+fn verb_error(verb: &str) -> Message<'_>
+    ensures { (result.0.now, result.1.now) ≡ verb_error verb.now }
+{
+    match expected_after(verb) {
+        Some(expected) => (expected, verb),
+        None => ("unknown event", verb),
+    }
+}
+
+#[tactic(auto, unfolding(crate::specs::Grammar::act_error))]
+fn act_error<'a>(verb: &'a str, args: &[&'a str]) -> Message<'a>
+    ensures { (result.0.now, result.1.now) ≡ act_error verb.now (map (λ x. x.now) args.now) }
+{
+    match args {
+        [arg, ..] if numbered_act(verb, 0).is_some() && number(arg).is_none() => {
+            (EXPECTED_NUMBER, arg)
+        }
+        _ => verb_error(verb),
+    }
+}
+
+#[tactic(auto, unfolding(crate::specs::Grammar::act_after))]
+fn act_after<'a>(moment: &'a str, fields: &[&'a str]) -> Result<Act, Message<'a>>
+    ensures { said (λ act. act) result ≡ act_after moment.now (map (λ x. x.now) fields.now) }
+{
+    let [verb, args @ ..] = fields else {
+        return Err(("expected an event after", moment));
     };
-    let at = Moment(number(moment)?);
-    let act = act_of(verb, args)?;
-    Some(Event { at, act })
+    match act_of(verb, args) {
+        Some(act) => Ok(act),
+        None => Err(act_error(verb, args)),
+    }
+}
+
+/// Parses an event: a moment, a verb and its arguments.
+#[tactic(auto, unfolding(crate::specs::Grammar::event_of_fields))]
+pub(crate) fn event_of_fields<'a>(fields: &[&'a str]) -> Result<Event, Message<'a>>
+    ensures { said (λ event. event) result ≡ event_of_fields (map (λ x. x.now) fields.now) }
+{
+    let [moment, fields @ ..] = fields else {
+        return Err(("expected an event after", ""));
+    };
+    let Some(at) = number(moment) else {
+        return Err((EXPECTED_NUMBER, moment));
+    };
+    let act = act_after(moment, fields)?;
+    Ok(Event {
+        at: Moment(at),
+        act,
+    })
 }
 
 /// Returns the fields of a line, which spaces separate. Fails if memory is refused.
@@ -139,8 +190,7 @@ pub fn fields_of(alloc: Global, line: &str) -> Result<Vec<&str>, AllocError>
     line.split(' ').collect(alloc)
 }
 
-/// Parses an event: a moment, a verb and its arguments. Returns None for any other line. Fails if
-/// memory is refused.
+/// Parses an event. Returns None for any other line. Fails if memory is refused.
 pub fn event_of(alloc: Global, line: &[u8]) -> Result<Option<Event>, AllocError>
     ensures { IfOk result (λ event. event ≡ event_of line.now) }
 {
@@ -148,5 +198,5 @@ pub fn event_of(alloc: Global, line: &[u8]) -> Result<Option<Event>, AllocError>
         return Ok(None);
     };
     let fields = fields_of(alloc, text)?;
-    Ok(event_of_fields(fields.as_slice()))
+    Ok(event_of_fields(fields.as_slice()).ok())
 }

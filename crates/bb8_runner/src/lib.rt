@@ -6,7 +6,6 @@ pub mod fault;
 pub mod grammar;
 mod laws;
 pub mod lines;
-mod overrides;
 pub mod report;
 pub mod script;
 mod settings;

@@ -1,7 +1,7 @@
 //! The output lines of a script.
 ghost use Rattle.std.specs.Prelude.{◌≡◌, ◌++◌, Some, IfOk, string_bytes};
 ghost use Rattle.bb8_types.specs.Figures.{counts_of, figures_of};
-ghost use Rattle.bb8_runner.specs.Text.{grant_text, notifies_text, sizes_text, gets_text, opened_text, closed_text, gone_text, state_text, answer_text, output_of, bad_line_text};
+ghost use Rattle.bb8_runner.specs.Text.{grant_text, notifies_text, gets_text, connections_text, gone_text, state_text, answer_text, output_of, bad_line_text};
 
 use bb8_core::api::{Moment, State, Statistics};
 use bb8_core::internals::Grant;
@@ -48,20 +48,6 @@ impl fmt::Display for NotifiesPart {
     }
 }
 
-/// The counts of connections.
-#[derive(Clone, Copy)]
-struct SizesPart(State);
-
-impl fmt::Display for SizesPart {
-    ghost output = { λ p. Some (sizes_text (figures_of p.0)) };
-
-    fn fmt<W: fmt::Write>(&self, f: &mut fmt::Formatter<W>) -> fmt::Result {
-        let connections = self.0.connections;
-        let idle = self.0.idle_connections;
-        write!(f, "state connections {connections} idle {idle}")
-    }
-}
-
 /// The counts of gets.
 #[derive(Clone, Copy)]
 struct GetsPart(Statistics);
@@ -85,35 +71,23 @@ impl fmt::Display for GetsPart {
     }
 }
 
-/// How long gets waited, in whole microseconds, and the count of opened connections.
+/// How long gets waited, in whole microseconds, and the counts of opened and closed connections.
 #[derive(Clone, Copy)]
-struct OpenedPart(Statistics);
+struct ConnectionsPart(Statistics);
 
-impl fmt::Display for OpenedPart {
-    ghost output = { λ p. Some (opened_text (counts_of p.0)) };
+impl fmt::Display for ConnectionsPart {
+    ghost output = { λ p. Some (connections_text (counts_of p.0)) };
 
     fn fmt<W: fmt::Write>(&self, f: &mut fmt::Formatter<W>) -> fmt::Result {
         let wait = self.0.get_wait_time.as_micros();
         let created = self.0.connections_created;
-        write!(f, " wait_us {wait} created {created}")
-    }
-}
-
-/// The counts of closed connections, by reason.
-#[derive(Clone, Copy)]
-struct ClosedPart(Statistics);
-
-impl fmt::Display for ClosedPart {
-    ghost output = { λ p. Some (closed_text (counts_of p.0)) };
-
-    fn fmt<W: fmt::Write>(&self, f: &mut fmt::Formatter<W>) -> fmt::Result {
         let broken = self.0.connections_closed_broken;
         let invalid = self.0.connections_closed_invalid;
         let lifetime = self.0.connections_closed_max_lifetime;
         let idle_timeout = self.0.connections_closed_idle_timeout;
         write!(
             f,
-            " broken {broken} invalid {invalid} lifetime {lifetime} idle_timeout {idle_timeout}"
+            " wait_us {wait} created {created} broken {broken} invalid {invalid} lifetime {lifetime} idle_timeout {idle_timeout}"
         )
     }
 }
@@ -146,14 +120,14 @@ impl fmt::Display for StateText {
     ghost output = { λ p. Some (state_text (figures_of p.0)) };
 
     fn fmt<W: fmt::Write>(&self, f: &mut fmt::Formatter<W>) -> fmt::Result {
+        let connections = self.0.connections;
+        let idle = self.0.idle_connections;
         let statistics = self.0.statistics;
         write!(
             f,
-            "{}{}{}{}{}",
-            SizesPart(self.0),
+            "state connections {connections} idle {idle}{}{}{}",
             GetsPart(statistics),
-            OpenedPart(statistics),
-            ClosedPart(statistics),
+            ConnectionsPart(statistics),
             GonePart(statistics)
         )
     }

@@ -7,44 +7,26 @@ use Rattle.bb8_tables.proofs.Slots.{Updates}
 
 -- ---- lines into a table
 
-module _ {X K : Type 0} {number : X → ℕ} {test : X → Bool} {key leads : K → ℕ} where
+-- the content of a place passes
+abbrev pub passes : {X : Type 0} → (X → Bool) → Option X → Bool
+passes test None = false
+passes test (Some x) = test x
+
+module _ {X K : Type 0} {number : X → ℕ} {test : X → Bool} {key leads : K → ℕ} {old : List (Option X)} {keys : List K} {was : Option X} (l : IsLine number test key leads old keys) where
   -- a place that does not pass is on no line
-  pub avoids : (old : List (Option X)) (keys : List K) (place : ℕ) (x : X) → IsLine number test key leads old keys
-      → get_or old place None ≡ Some x → test x ≡ false → (j : ℕ) (k : K) → slice_get keys j ≡ Some k → leads k ≢ place
-  avoids old keys place x l at_place off = grind (arith, Slots.line_avoids)
+  pub avoids : (place : ℕ) → get_or old place None ≡ was → passes test was ≡ false → (j : ℕ) (k : K) → slice_get keys j ≡ Some k → leads k ≢ place
+  avoids place at_place off = Slots.line_avoids _ _ _ _ old keys place l (λ x e on. let clash : true ≡ false = sym on ∙ ap (passes test) (sym e ∙ at_place) ∙ off in cc)
 
-  pub free_avoids : (old : List (Option X)) (keys : List K) (place : ℕ) → IsLine number test key leads old keys → get_or old place None ≡ None → (j : ℕ) (k : K) → slice_get keys j ≡ Some k
-      → leads k ≢ place
-  free_avoids old keys place l free = Slots.line_avoids _ _ _ _ old keys place l (λ y e t. let clash : None ≡ Some y = sym free ∙ e in cc)
+  -- such a place changes
+  pub other_line : {new : List (Option X)} {place : ℕ} {slot : Option X} → get_or old place None ≡ was → passes test was ≡ false → Updates old new place slot → IsLine number test key leads new keys
+  other_line {new} {place} at_place off u = Slots.line_kept _ _ _ _ old new keys place l (avoids place at_place off) u.others
 
-  -- a place that is on no line changes
-  pub other_line : {old new : List (Option X)} {keys : List K} {place : ℕ} {x : X} {slot : Option X} → IsLine number test key leads old keys
-      → get_or old place None ≡ Some x → test x ≡ false → Updates old new place slot → IsLine number test key leads new keys
-  other_line {old} {new} {keys} {place} {x} l at_place off u = Slots.line_kept _ _ _ _ old new keys place l (avoids old keys place x l at_place off) u.others
-
-  -- a free place is taken
-  pub free_line : {old new : List (Option X)} {keys : List K} {place : ℕ} {slot : Option X} → IsLine number test key leads old keys
-      → get_or old place None ≡ None → Updates old new place slot → IsLine number test key leads new keys
-  free_line {old} {new} {keys} {place} l free u = Slots.line_kept _ _ _ _ old new keys place l (free_avoids old keys place l free) u.others
-
-  -- a key comes to the back, whose place passes from now on
-  pushed_line : (old new : List (Option X)) (keys : List K) (k : K) (y : X) → IsLine number test key leads old keys
-      → ((j : ℕ) (m : K) → slice_get keys j ≡ Some m → leads m ≢ leads k) → Updates old new (leads k) (Some y) → number y ≡ key k
-      → test y ≡ true → IsLine number test key leads new (keys ++ k ∷ [])
-  pushed_line old new keys k y l away u same on = Slots.line_pushed _ _ _ _ new keys k y (Slots.line_kept _ _ _ _ old new keys (leads k) l away u.others) away u.changed same on
-
-  -- its place did not pass before
-  pub turned_line : {old new : List (Option X)} {keys : List K} (k : K) {x y : X} → IsLine number test key leads old keys
-      → get_or old (leads k) None ≡ Some x → test x ≡ false → Updates old new (leads k) (Some y) → number y ≡ key k → test y ≡ true
+  -- it comes to the back, and passes from now on
+  pub turned_line : {new : List (Option X)} (k : K) {y : X} → get_or old (leads k) None ≡ was → passes test was ≡ false → Updates old new (leads k) (Some y) → number y ≡ key k → test y ≡ true
       → IsLine number test key leads new (keys ++ k ∷ [])
-  turned_line {old} {new} {keys} k {x} {y} l at_place off u same on = pushed_line old new keys k y l (avoids old keys (leads k) x l at_place off) u same on
+  turned_line {new} k {y} at_place off u same on = Slots.line_pushed _ _ _ _ new keys k y (other_line at_place off u) (avoids (leads k) at_place off) u.changed same on
 
-  -- its place was free
-  pub added_line : {old new : List (Option X)} {keys : List K} (k : K) {y : X} → IsLine number test key leads old keys
-      → get_or old (leads k) None ≡ None → Updates old new (leads k) (Some y) → number y ≡ key k → test y ≡ true
-      → IsLine number test key leads new (keys ++ k ∷ [])
-  added_line {old} {new} {keys} k {y} l free u same on = pushed_line old new keys k y l (free_avoids old keys (leads k) l free) u same on
-
+module _ {X K : Type 0} {number : X → ℕ} {test : X → Bool} {key leads : K → ℕ} where
   -- the first key goes, and its place changes
   pub shorter_line : {old new : List (Option X)} {keys : List K} {k : K} {slot : Option X} → IsLine number test key leads old keys
       → slice_get keys 0 ≡ Some k → Updates old new (leads k) slot → IsLine number test key leads new (drop 1 keys)
@@ -90,12 +72,9 @@ module _ {X : Type 0} {test : X → Bool} where
   places_without {old} {new} {places} {place} l u = Slots.line_kept _ _ _ _ old new (machine.without place places) place (places_left old place places l) (left_away places place) u.others
 
   -- a place that does not pass is absent
-  pub places_absent : (slots : List (Option X)) (places : List ℕ) (place : ℕ) (x : X) → ArePlaces test slots places → get_or slots place None ≡ Some x → test x ≡ false → Absent place places
-  places_absent slots places place x l at_place off = get_absent place places (avoids slots places place x l at_place off)
-
-  -- nor is a free one
-  pub free_absent : (slots : List (Option X)) (places : List ℕ) (place : ℕ) → ArePlaces test slots places → get_or slots place None ≡ None → Absent place places
-  free_absent slots places place l free = get_absent place places (free_avoids slots places place l free)
+  pub places_absent : {slots : List (Option X)} {places : List ℕ} {was : Option X} (place : ℕ) → ArePlaces test slots places → get_or slots place None ≡ was → passes test was ≡ false
+      → Absent place places
+  places_absent {places = places} place l at_place off = get_absent place places (avoids l place at_place off)
 
   -- the first place is there once
   pub without_first : (slots : List (Option X)) (places : List ℕ) (place : ℕ) → ArePlaces test slots places → slice_get places 0 ≡ Some place → machine.without place places ≡ drop 1 places

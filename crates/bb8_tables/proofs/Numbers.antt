@@ -1,6 +1,5 @@
 -- The numbers of the records at places in line.
-use Rattle.std.proofs.lemmas.Bool.Decides.{nat_tests}
-use Rattle.bb8_tables.proofs.Words.{◌≡◌, ◌≢◌, ℕ, suc, Bool, cond, not, eqb, List, [], ◌∷◌, ◌++◌, map, Option, Some, None, slice_get, get_or, refl, ap, ◌∙◌, eq-eqb, ne_eqb, map_push, eqb_tells, without, IsDistinct, ArePlaces, number_in, numbers_at, arith}
+use Rattle.bb8_tables.proofs.Words.{◌≡◌, ◌≢◌, ℕ, suc, Bool, cond, not, eqb, List, [], ◌∷◌, ◌++◌, map, Option, Some, None, slice_get, get_or, refl, ap, ◌∙◌, eq-eqb, ne_eqb, map_push, eqb_tells, without, IsDistinct, ArePlaces, number_in, numbers_at, arith, nat_tests}
 use Rattle.bb8_tables.proofs.Slots.{Updates}
 
 -- a line without a place, known from something else that distinguishes its places

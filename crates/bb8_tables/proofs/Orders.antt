@@ -1,9 +1,8 @@
 -- Orders of all the places whose content passes a test.
-use Rattle.std.proofs.lemmas.Bool.Decides.{nat_tests}
-use Rattle.bb8_tables.proofs.Words.{◌≡◌, ◌≢◌, ◌≤◌, ℕ, zero, suc, Bool, true, false, arith, map, List, [], ◌∷◌, ◌++◌, Option, Some, None, slice_get, get_or, option_map, refl, sym, ap, ◌∙◌, ◌⊎◌, inl, inr, subst, map-append, slice_get-map, without, IsOrder, ArePlaces, IsRising, AllFrom, number_in, numbers_at, Absent, same_or_not}
-use Rattle.bb8_tables.proofs.Lines.{same_line, places_without, left_away}
+use Rattle.bb8_tables.proofs.Words.{◌≡◌, ◌≢◌, ◌≤◌, ℕ, zero, suc, Bool, true, false, arith, map, List, [], ◌∷◌, ◌++◌, Option, Some, None, slice_get, get_or, option_map, refl, sym, ap, ◌∙◌, ◌⊎◌, inl, inr, subst, map-append, slice_get-map, without, IsOrder, IsRising, AllFrom, number_in, numbers_at, Absent, same_or_not, nat_tests}
+use Rattle.bb8_tables.proofs.Lines.{passes, avoids, same_line, places_without, left_away}
 use Rattle.bb8_tables.proofs.Numbers.{numbers_all, numbers_kept, numbers_same, numbers_push}
-use Rattle.bb8_tables.proofs.Slots.{Updates, changed_cases, line_avoids, line_kept, line_pushed}
+use Rattle.bb8_tables.proofs.Slots.{Updates, changed_cases, line_kept, line_pushed}
 use Rattle.bb8_tables.proofs.Spelled.{without_cases, absent_push, absent_without}
 
 -- ---- numbers that rise
@@ -26,19 +25,9 @@ rising_without f p (k ∷ places) r = grind (arith, nat_tests, without_cases, ri
 
 -- ---- orders
 
--- the content of a place passes
-abbrev pub passes : {X : Type 0} → (X → Bool) → Option X → Bool
-passes test None = false
-passes test (Some x) = test x
-
 module _ {X : Type 0} (test : X → Bool) where
   not_passing : (o : Option X) (x : X) → passes test o ≡ false → o ≡ Some x → test x ≡ false
   not_passing o x off e = ap (passes test) (sym e) ∙ off
-
-  -- a place that does not pass is not among them
-  order_avoids : (slots : List (Option X)) (places : List ℕ) (place : ℕ) → ArePlaces test slots places → passes test (get_or slots place None) ≡ false → (j k : ℕ)
-      → slice_get places j ≡ Some k → k ≢ place
-  order_avoids slots places place are off = grind (arith, line_avoids, not_passing)
 
 module _ {X : Type 0} {test : X → Bool} {moment : X → ℕ} where
   pub no_order : IsOrder test moment [] []
@@ -71,7 +60,7 @@ module _ {X : Type 0} {test : X → Bool} {moment : X → ℕ} where
 
     module _ {was : Option X} (at_place : get_or old place None ≡ was) (off : passes test was ≡ false) where
       away : (j k : ℕ) → slice_get places j ≡ Some k → k ≢ place
-      away = order_avoids test old places place o.are (ap (passes test) at_place ∙ off)
+      away = avoids o.are place at_place off
 
       -- a place changes that passes neither before nor after
       pub other_order : passes test slot ≡ false → IsOrder test moment new places

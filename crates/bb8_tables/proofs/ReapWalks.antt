@@ -1,10 +1,8 @@
 -- The two walks of a reap.
-use Rattle.std.proofs.lemmas.Bool.Decides.{nat_tests}
-use Rattle.bb8_tables.proofs.Words.{slice_get_within, append_assoc, ◌≡◌, ◌⊎◌, inl, inr, ℕ, zero, suc, ◌+◌, ◌-◌, ◌<◌, ◌≤◌, Bool, true, false, ◌&&◌, List, [], ◌∷◌, ◌++◌, length, Option, Some, None, slice_get, refl, sym, ap, ◌∙◌, arith, subst, length-append, eq-eqb, ne_eqb, length-map, leb-false, lt-leb, get, most_records, Settings, one, tally, is_idle, is_conn, is_out, is_past, is_expired, idles_out, lives_out, Place, Standing, Slot, Young, Out, Aged, Buffer, Closed, offered_all, closed_in, closed_of, EndsFirst, Ends, EndsIdle, Passes, AccessCount, AddsReads, TableView, slot_at, without, AreFirst, Reaps, ArePlaces, IsRising, numbers_at, Absent, view_of_records, AreGoodRecords, passes, RecordsView, Inside, idle_from}
+use Rattle.bb8_tables.proofs.Words.{slice_get_within, append_assoc, ◌≡◌, ◌⊎◌, inl, inr, ℕ, zero, suc, ◌+◌, ◌-◌, ◌<◌, ◌≤◌, Bool, true, false, ◌&&◌, List, [], ◌∷◌, ◌++◌, length, Option, Some, None, slice_get, refl, sym, ap, ◌∙◌, arith, subst, length-append, eq-eqb, ne_eqb, length-map, leb-false, lt-leb, get, most_records, Settings, one, tally, is_idle, is_conn, is_out, is_past, is_expired, idles_out, lives_out, Place, Standing, Slot, Young, Out, Aged, Buffer, Closed, offered_all, closed_in, closed_of, Ends, EndsIdle, Passes, AccessCount, AddsReads, TableView, slot_at, freed, without, AreFirst, Reaps, ArePlaces, IsRising, numbers_at, Absent, view_of_records, AreGoodRecords, passes, RecordsView, Inside, idle_from, nat_tests}
 use Rattle.bb8_tables.proofs.AccessCount.{adds_none, adds_more, adds_within}
 use Rattle.bb8_tables.proofs.Lines.{get_absent}
 use Rattle.bb8_tables.proofs.Orders.{found_in, no_earlier}
-use Rattle.bb8_tables.proofs.TablePlaces.{Frees, number_at}
 use Rattle.bb8_tables.proofs.RecordPlaces.{idle_conn}
 use Rattle.bb8_tables.proofs.ReapPlaces.{lives_idle, freed_good, freed_births, freed_due}
 use Rattle.bb8_tables.proofs.Reaps.{listed_both, none_ended, first_more, ends_more}
@@ -12,9 +10,6 @@ use Rattle.bb8_tables.proofs.Slots.{Updates, held_found, line_length, get-push, 
 use Rattle.bb8_tables.proofs.Spelled.{absent_get, without_absent}
 
 -- ---- limits
-
-and_left : (a b : Bool) → a ≡ false → (a && b) ≡ false
-and_left a b e = rw e refl
 
 and_right : (a b : Bool) → b ≡ false → (a && b) ≡ false
 and_right true b e = e
@@ -82,13 +77,13 @@ module _ {C : Type 0} where
   unless_idle test nothing busy a good idle k = grind (arith, nat_tests, held_found)
 
   -- the first in line is idle
-  pub first_idle : (a : Inside C) (place : ℕ) (x : Slot (Standing C)) → AreGoodRecords a → slice_get a.slots.line 0 ≡ Some place → slot_at a.slots place ≡ Some x → is_idle x.standing.place ≡ true
-  first_idle a place x good first at_place = grind arith
+  pub first_idle : {a : Inside C} {place : ℕ} {x : Slot (Standing C)} → AreGoodRecords a → slice_get a.slots.line 0 ≡ Some place → slot_at a.slots place ≡ Some x → is_idle x.standing.place ≡ true
+  first_idle good first at_place = grind arith
 
   -- where the first in line is not idle too long, none is
   pub first_not_due : (config : Settings) (now : ℕ) (a : Inside C) (place : ℕ) (x : Slot (Standing C)) → AreGoodRecords a → slice_get a.slots.line 0 ≡ Some place → slot_at a.slots place ≡ Some x
       → idles_out config now (Some x.standing) ≡ false → (k : ℕ) → idles_out config now (get (view_of_records a).places k) ≡ false
-  first_not_due config now a place x good first at_place young = unless_idle (idles_out config now) refl (λ s e. and_left (is_idle s.place) _ e) a good
+  first_not_due config now a place x good first at_place young = unless_idle (idles_out config now) refl (λ s e. rw e refl) a good
       (λ i y e idle. and_right (is_idle y.standing.place) _ (shorter_span config.idle_timeout (now - x.standing.entered) (now - y.standing.entered) first_past
       (omega (arith, entered_later i y e idle))))
     where
@@ -107,12 +102,7 @@ module _ {C : Type 0} where
 
   -- where nothing is in line, none is idle
   pub none_in_line : (config : Settings) (now : ℕ) (a : Inside C) → AreGoodRecords a → slice_get a.slots.line 0 ≡ None → (k : ℕ) → idles_out config now (get (view_of_records a).places k) ≡ false
-  none_in_line config now a good empty = grind (arith, nat_tests, unless_idle (idles_out config now), and_left, found_in good.idle, none_at a.slots.line)
-
-  -- the number of the first in line
-  pub first_shown : (a : Inside C) (place : ℕ) (x : Slot (Standing C)) → slice_get a.slots.line 0 ≡ Some place → slot_at a.slots place ≡ Some x
-      → slice_get (view_of_records a).idle 0 ≡ Some x.number
-  first_shown a place x first at_place = number_at a.slots.slots a.slots.line 0 first at_place
+  none_in_line config now a good empty = grind (arith, nat_tests, unless_idle (idles_out config now), found_in good.idle, none_at a.slots.line)
 
   -- how far the walk has come
   pub record InIdle (config : Settings) (now : ℕ) (old new : RecordsView C) (outcome : ℕ) (list listed : Buffer (Closed C)) (reads reads_now : AccessCount) : Type 0 where
@@ -123,12 +113,12 @@ module _ {C : Type 0} where
 
   pub idle_more : {config : Settings} {now : ℕ} {old mid new : RecordsView C} {outcome : ℕ} {list listed offered : Buffer (Closed C)} {reads mid_reads new_reads : AccessCount}
       → InIdle config now old mid outcome list listed reads mid_reads
-      → (k : ℕ) × (slice_get mid.idle 0 ≡ Some k) × EndsFirst (idles_out config now) mid k new listed offered → AddsReads 1 0 mid_reads new_reads
+      → (k : ℕ) × (slice_get mid.idle 0 ≡ Some k) × Ends (idles_out config now) mid (k ∷ []) new 1 listed offered → AddsReads 1 0 mid_reads new_reads
       → InIdle config now old new (outcome + 1) list offered reads new_reads
   idle_more {config} {now} {old} {mid} {new} {outcome} {list} {listed} {offered} {reads} {mid_reads} {new_reads} i e l = record {
     ks = i.ks ++ e.0 ∷ [];
     first = first_more (idles_out config now) i.ks e.0 old i.first (ap (λ (s : RecordsView C). slice_get s.idle 0) (sym i.ends.state) ∙ e.1)
-        (ap (λ (s : RecordsView C). idles_out config now (get s.places e.0)) (sym i.ends.state) ∙ e.2.is_due);
+        (ap (λ (s : RecordsView C). idles_out config now (get s.places e.0)) (sym i.ends.state) ∙ e.2.each.0);
     ends = ends_more (idles_out config now) i.ends e.2 refl;
     accesses = adds_more outcome 1 reads mid_reads new_reads i.accesses l;
   }
@@ -240,7 +230,7 @@ module _ {C : Type 0} where
           }
 
       -- it ends one that is idle
-      module _ {slots : TableView (Slot (Standing C))} {next : Option ℕ} (p : Passes config now a.slots place (Aged next)) (gone : Frees a.slots slots place) where
+      module _ {slots : TableView (Slot (Standing C))} {next : Option ℕ} (p : Passes config now a.slots place (Aged next)) (gone : slots ≡ freed place a.slots) where
         aged_idle : is_idle p.0.standing.place ≡ true
         aged_idle = lives_idle config now p.0.standing p.2
 
@@ -251,12 +241,12 @@ module _ {C : Type 0} where
             let are = subst (λ (ks : List ℕ). ArePlaces (λ (x : Slot (Standing C)). is_conn x.standing.place) a.slots.slots ks) cut i.good.births.are in
             let front : Absent place i.passed = absent_front a.slots.slots i.passed ahead.0 place are in
             record {
-              good = freed_good a place p.0 slots i.good p.1 aged_idle gone;
+              good = freed_good place i.good p.1 aged_idle gone;
               ks = i.ks ++ p.0.number ∷ [];
-              ends = ends_more (lives_out config now) i.ends (freed_due a place p.0 slots i.good p.1 aged_idle gone (lives_out config now) (view_of_records a) refl p.2 (put p.0 p.1)) is;
+              ends = ends_more (lives_out config now) i.ends (freed_due place i.good p.1 aged_idle gone (lives_out config now) refl p.2 (put p.0 p.1)) is;
               passed = i.passed;
               rest = ahead.0;
-              births = freed_births a place p.0 slots i.good p.1 aged_idle gone ∙ ap (without place) cut
+              births = freed_births place i.good p.1 aged_idle gone ∙ ap (without place) cut
                   ∙ without_between place i.passed ahead.0 front (absent_back a.slots.slots i.passed ahead.0 place are);
               at_is = p.3 i.passed ahead.0 cut;
               outs = λ j k e. let o = i.outs j k e in
@@ -275,7 +265,7 @@ module _ {C : Type 0} where
       -- none is left that lives too long, where none is ahead
       none_aged : ((j k : ℕ) (y : Slot (Standing C)) → slice_get i.rest j ≡ Some k → slot_at a.slots k ≡ Some y → is_expired config.max_lifetime now y.standing.birth ≡ false)
           → (k : ℕ) → lives_out config now (get (view_of_records a).places k) ≡ false
-      none_aged young = unless_idle (lives_out config now) refl (λ s e. and_left (is_idle s.place) _ e) a i.good (λ p y e idle. and_right (is_idle y.standing.place) _ (here p y e idle))
+      none_aged young = unless_idle (lives_out config now) refl (λ s e. rw e refl) a i.good (λ p y e idle. and_right (is_idle y.standing.place) _ (here p y e idle))
         where
           here : (p : ℕ) (y : Slot (Standing C)) → slot_at a.slots p ≡ Some y → is_idle y.standing.place ≡ true → is_expired config.max_lifetime now y.standing.birth ≡ false
           here p y e idle = grind (arith, nat_tests, found_in i.good.births p y e, idle_conn y.standing.place idle, get_joined i.passed i.rest, out_busy y.standing.place)

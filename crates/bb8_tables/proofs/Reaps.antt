@@ -1,6 +1,5 @@
 -- Idle connections that have ended, one after another.
-use Rattle.std.proofs.lemmas.Bool.Decides.{nat_tests}
-use Rattle.bb8_tables.proofs.Words.{◌≡◌, ℕ, ◌+◌, Bool, true, List, [], ◌∷◌, ◌++◌, slice_get, Option, Some, refl, sym, ap, ◌∙◌, arith, length-append, append_assoc, get, remove, Buffer, Standing, Closed, offered, offered_all, closed_in, closed_of, EndsFirst, Ends, after_reaped, after_reap, AreReaped, AreFirst, RecordsView}
+use Rattle.bb8_tables.proofs.Words.{◌≡◌, ℕ, ◌+◌, Bool, true, List, [], ◌∷◌, ◌++◌, slice_get, Option, Some, refl, sym, ap, ◌∙◌, arith, length-append, append_assoc, get, remove, Buffer, Standing, Closed, offered, offered_all, closed_in, closed_of, Ends, after_reaped, after_reap, AreReaped, AreFirst, RecordsView, nat_tests}
 
 -- a list is offered these, and then those
 pub offered_both : {X : Type 0} (xs ys : List X) (b : Buffer X) → offered_all (xs ++ ys) b ≡ offered_all ys (offered_all xs b)
@@ -42,5 +41,5 @@ module _ {C : Type 0} (test : Option (Standing C) → Bool) where
 
   -- one more has ended
   pub ends_more : {k : ℕ} {old mid new : RecordsView C} {ks : List ℕ} {outcome more : ℕ} {list listed offered : Buffer (Closed C)} → Ends test old ks mid outcome list listed
-      → EndsFirst test mid k new listed offered → more ≡ outcome + 1 → Ends test old (ks ++ k ∷ []) new more list offered
+      → Ends test mid (k ∷ []) new 1 listed offered → more ≡ outcome + 1 → Ends test old (ks ++ k ∷ []) new more list offered
   ends_more {k} {old} {mid} {new} {ks} {outcome} {more} {list} {listed} {offered} a e is = grind (arith, nat_tests, length-append, due_both, reap_both, listed_both)

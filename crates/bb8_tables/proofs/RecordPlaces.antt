@@ -1,17 +1,15 @@
 -- The code's side of each change: what it does to the fields, seen in what they mean.
-use Rattle.std.proofs.lemmas.Bool.Decides.{nat_tests}
-use Rattle.bb8_tables.proofs.Words.{subst, ◌≡◌, ◌≢◌, ℕ, ◌+◌, ◌-◌, ◌<◌, ◌≤◌, Bool, true, false, cond, not, [], ◌∷◌, ◌++◌, map, length, Option, Some, None, IsSome, set, slice_get, drop, refl, sym, ap, ◌∙◌, arith, append-nil, map_push, drop-map, length-map, get, TableView, slot_at, Absent, Buffer, buffer, Place, Unclaimed, Claimed, Idle, Guarded, Standing, Holder, Key, Slot, QueueStrategy, is_idle, is_unclaimed, is_conn, is_approval, is_out, place_with, with_place, first_place, first_of, comes_from, birth_in, entered_in, IsTable, number_in, numbers_at, view_of_records, AreGoodRecords, passes, IsLineOf, IsOrderOf, tally, one, RecordsView, NoneAfter, most_records, Inside, unclaimed_is, idle_is, held_conn, idle_from, unclaimed_from, conn_from, approval_from}
-use Rattle.std.proofs.Common.{IfSome}
+use Rattle.bb8_tables.proofs.Words.{subst, ◌≡◌, ◌≢◌, ℕ, ◌+◌, ◌-◌, ◌<◌, ◌≤◌, Bool, true, false, cond, not, [], ◌∷◌, ◌++◌, map, length, Option, Some, None, IsSome, set, slice_get, drop, refl, sym, ap, ◌∙◌, arith, append-nil, map_push, drop-map, length-map, get, TableView, slot_at, filled, freed, Restands, Absent, Buffer, buffer, Place, Unclaimed, Claimed, Idle, Guarded, Standing, Holder, Key, Slot, QueueStrategy, is_idle, is_unclaimed, is_conn, is_approval, is_out, place_with, with_place, first_place, first_of, comes_from, birth_in, entered_in, IsTable, number_in, numbers_at, view_of_records, AreGoodRecords, passes, IsLineOf, IsOrderOf, tally, one, RecordsView, NoneAfter, most_records, Inside, unclaimed_is, idle_is, held_conn, idle_from, unclaimed_from, conn_from, approval_from, nat_tests}
 use Rattle.bb8_tables.specs.Machine as machine
 use Rattle.bb8_tables.proofs.Views.{same_records}
-use Rattle.bb8_tables.proofs.Lines.{other_line, free_line, added_line, shorter_line, same_line, places_absent, free_absent}
+use Rattle.bb8_tables.proofs.Lines.{other_line, turned_line, shorter_line, same_line, places_absent}
 use Rattle.bb8_tables.proofs.Numbers.{numbers_all}
 use Rattle.bb8_tables.proofs.Spelled.{without_absent}
 use Rattle.bb8_tables.proofs.Orders.{no_order, same_order, other_order, pushed_order, left_order, stays_order}
 use Rattle.bb8_tables.proofs.Slots
 use Rattle.bb8_tables.proofs.Slots.{Updates, set_at, set_within, tally_set, tally_at, table_set, table_added, table_removed, table_kept}
 use Rattle.bb8_tables.proofs.TablePlaces
-use Rattle.bb8_tables.proofs.TablePlaces.{numbered, Restands, Frees, stands_then, number_at, no_number_at, set_shown, set_line, set_pushed, line_without, cleared_shown, cleared_line, added_shown, added_pushed}
+use Rattle.bb8_tables.proofs.TablePlaces.{numbered, stands_then, stands_within, number_at, no_number_at, set_shown, set_line, set_pushed, line_without, cleared_shown, cleared_line, added_shown, added_pushed}
 
 either : (o : Bool) → one o + one (not o) ≡ 1
 either o = grind (arith, nat_tests)
@@ -33,62 +31,46 @@ module _ {C : Type 0} where
       omega (arith, good.approved_are)
 
   -- what is somewhere is counted
-  pub conn_counted : (a : Inside C) (i : ℕ) (x : Slot (Standing C)) (b : Bool) → AreGoodRecords a → slot_at a.slots i ≡ Some x → is_conn x.standing.place ≡ b → one b ≤ a.conns
-  conn_counted a i x b good e is = omega (arith, tally_at (passes is_conn) refl a.slots.slots i, ap one (ap (passes is_conn) e ∙ is), good.conns_are)
+  pub conn_counted : {a : Inside C} (i : ℕ) {x : Slot (Standing C)} (b : Bool) → AreGoodRecords a → slot_at a.slots i ≡ Some x → is_conn x.standing.place ≡ b → one b ≤ a.conns
+  conn_counted {a} i b good e is = omega (arith, tally_at (passes is_conn) refl a.slots.slots i, ap one (ap (passes is_conn) e ∙ is), good.conns_are)
 
-  pub approval_counted : (a : Inside C) (i : ℕ) (x : Slot (Standing C)) (b : Bool) → AreGoodRecords a → slot_at a.slots i ≡ Some x → is_approval x.standing.place ≡ b → one b ≤ a.approved
-  approval_counted a i x b good e is = omega (arith, tally_at (passes is_approval) refl a.slots.slots i, ap one (ap (passes is_approval) e ∙ is), good.approved_are)
+  pub approval_counted : {a : Inside C} (i : ℕ) {x : Slot (Standing C)} (b : Bool) → AreGoodRecords a → slot_at a.slots i ≡ Some x → is_approval x.standing.place ≡ b → one b ≤ a.approved
+  approval_counted {a} i b good e is = omega (arith, tally_at (passes is_approval) refl a.slots.slots i, ap one (ap (passes is_approval) e ∙ is), good.approved_are)
 
   -- a record that enters or ends is counted, and in neither order but that of births where it is a
   -- connection
-  module _ (a : Inside C) (opening : Bool) (place : ℕ) (x : Slot (Standing C)) (good : AreGoodRecords a) (at_place : slot_at a.slots place ≡ Some x)
+  module _ (opening : Bool) {a : Inside C} (place : ℕ) {x : Slot (Standing C)} (good : AreGoodRecords a) (at_place : slot_at a.slots place ≡ Some x)
       (was : comes_from opening x.standing.place ≡ true) where
     pub opened_counted : one opening ≤ a.approved
-    opened_counted = approval_counted a place x opening good at_place (approval_from opening x.standing.place was)
+    opened_counted = approval_counted place opening good at_place (approval_from opening x.standing.place was)
 
     pub closed_counted : one (not opening) ≤ a.conns
-    closed_counted = conn_counted a place x (not opening) good at_place (conn_from opening x.standing.place was)
+    closed_counted = conn_counted place (not opening) good at_place (conn_from opening x.standing.place was)
 
     pub enter_absent : Absent place a.slots.line
-    enter_absent = places_absent a.slots.slots a.slots.line place x good.idle.are at_place (idle_from opening x.standing.place was)
+    enter_absent = places_absent place good.idle.are at_place (idle_from opening x.standing.place was)
 
     pub opened_absent : opening ≡ true → Absent place a.slots.births
-    opened_absent new = places_absent a.slots.slots a.slots.births place x good.births.are at_place (conn_from opening x.standing.place was ∙ ap not new)
+    opened_absent new = places_absent place good.births.are at_place (conn_from opening x.standing.place was ∙ ap not new)
 
   -- ---- what is shown of a number
 
   -- what is shown of the number at a place
-  pub shown_at : (a : Inside C) (i q : ℕ) (x : Slot (Standing C)) → AreGoodRecords a → slot_at a.slots i ≡ Some x → x.number ≡ q → get (view_of_records a).places q ≡ Some x.standing
-  shown_at a i q x good e same = TablePlaces.shown_at q i good.table e same
+  pub shown_at : {a : Inside C} (i : ℕ) {q : ℕ} {x : Slot (Standing C)} → AreGoodRecords a → slot_at a.slots i ≡ Some x → x.number ≡ q → get (view_of_records a).places q ≡ Some x.standing
+  shown_at i {q} good e same = TablePlaces.shown_at q i good.table e same
 
   -- its moments are no later than those that are shown
-  pub moments : (a : Inside C) (now i : ℕ) (x : Slot (Standing C)) → AreGoodRecords a → NoneAfter now (view_of_records a) → slot_at a.slots i ≡ Some x → (x.standing.birth ≤ now) ×
+  pub moments : {a : Inside C} {now : ℕ} (i : ℕ) {x : Slot (Standing C)} → AreGoodRecords a → NoneAfter now (view_of_records a) → slot_at a.slots i ≡ Some x → (x.standing.birth ≤ now) ×
       (x.standing.entered ≤ now)
-  moments a now i x good late e = late x.number x.standing (shown_at a i x.number x good e refl)
-
-  pub shown_absent : (a : Inside C) (q : ℕ) → ((i : ℕ) (x : Slot (Standing C)) → slot_at a.slots i ≡ Some x → x.number ≢ q) → get (view_of_records a).places q ≡ None
-  shown_absent a q h = Slots.held_absent numbered (λ s. s.standing) a.slots.slots q h
+  moments i {x} good late e = late x.number x.standing (shown_at i good e refl)
 
   -- a look-up that finds nothing, or a slot
   pub none_shown : (a : Inside C) (q : ℕ) (s : RecordsView C) → view_of_records a ≡ s → ((i : ℕ) (x : Slot (Standing C)) → slot_at a.slots i ≡ Some x → x.number ≢ q) → get s.places q ≡ None
-  none_shown a q s is none = ap (λ (t : RecordsView C). get t.places q) (sym is) ∙ shown_absent a q none
+  none_shown a q s is none = ap (λ (t : RecordsView C). get t.places q) (sym is) ∙ Slots.held_absent numbered (λ x. x.standing) a.slots.slots q none
 
-  pub some_shown : (a : Inside C) (q i : ℕ) (x y : Slot (Standing C)) (s : RecordsView C) → AreGoodRecords a → view_of_records a ≡ s
-      → slot_at a.slots i ≡ Some x → x.number ≡ q → Some y ≡ slot_at a.slots i → get s.places q ≡ Some y.standing
-  some_shown a q i x y s good is e same found = grind (arith, shown_at a i q x good e same)
-
-  pub never_absent : (a : Inside C) (q : ℕ) {r : Standing C} (s : RecordsView C) {G : Type 0} → view_of_records a ≡ s → get s.places q ≡ Some r
-      → ((i : ℕ) (x : Slot (Standing C)) → slot_at a.slots i ≡ Some x → x.number ≢ q) → G
-  never_absent a q {r} s is shows none = absurd (let clash : Some r ≡ None = sym shows ∙ none_shown a q s is none in cc)
-
-  -- the record that is shown of a number is where the number was found
-  pub stood : (a : Inside C) (q i : ℕ) (x : Slot (Standing C)) (test : Place C → Bool) (s : RecordsView C) → AreGoodRecords a → view_of_records a ≡ s
-      → (r : Standing C) × (get s.places q ≡ Some r) × (test r.place ≡ true) → slot_at a.slots i ≡ Some x → x.number ≡ q → test x.standing.place ≡ true
-  stood a q i x test s good is h e same = grind (arith, shown_at a i q x good e same)
-
-  -- what a look finds at its place is what is there
-  pub passed : {o : Option (Slot (Standing C))} (x y : Slot (Standing C)) (test : Place C → Bool) → o ≡ Some x → o ≡ Some y → test y.standing.place ≡ true → test x.standing.place ≡ true
-  passed x y test e f on = subst (λ (o : Option (Slot (Standing C))). IfSome o (λ z. test z.standing.place ≡ true)) (sym f ∙ e) on
+  pub some_shown : (a : Inside C) (q i : ℕ) (x : Slot (Standing C)) (s : RecordsView C) → AreGoodRecords a → view_of_records a ≡ s
+      → slot_at a.slots i ≡ Some x → x.number ≡ q → get s.places q ≡ Some x.standing
+  some_shown a q i x s good is e same = ap (λ (t : RecordsView C). get t.places q) (sym is) ∙ shown_at i good e same
 
   -- ---- one place changes
 
@@ -122,7 +104,7 @@ module _ {C : Type 0} where
   -- ---- other memory
 
   -- each index has the same
-  module _ (a : Inside C) (slots : TableView (Slot (Standing C))) (peak : ℕ) (good : AreGoodRecords a) (kept : (i : ℕ) → slot_at slots i ≡ slot_at a.slots i) (line_is : slots.line ≡ a.slots.line)
+  module _ {a : Inside C} (slots : TableView (Slot (Standing C))) (peak : ℕ) (good : AreGoodRecords a) (kept : (i : ℕ) → slot_at slots i ≡ slot_at a.slots i) (line_is : slots.line ≡ a.slots.line)
       (births_are : slots.births ≡ a.slots.births) where
     pub kept_good : (unclaimed : Buffer Key) → unclaimed.items ≡ a.unclaimed.items → a.conns + a.approved ≤ peak → peak ≤ most_records → peak ≤ a.conns + a.approved + slots.free
         → peak ≤ unclaimed.capacity → AreGoodRecords (record a { slots = slots; unclaimed = unclaimed; peak = peak })
@@ -143,23 +125,23 @@ module _ {C : Type 0} where
   -- ---- claim
 
   -- the unclaimed approval that is first
-  first_unclaimed : (a : Inside C) (key : Key) → AreGoodRecords a → Some key ≡ slice_get a.unclaimed.items 0
+  first_unclaimed : {a : Inside C} {key : Key} → AreGoodRecords a → Some key ≡ slice_get a.unclaimed.items 0
       → (x : Slot (Standing C)) × (slot_at a.slots key.place ≡ Some x) × (x.number ≡ key.number) × (x.standing.place ≡ Unclaimed)
-  first_unclaimed a key good first = let x = good.unclaimed.each 0 key (sym first) in (x.0, x.1, x.2, unclaimed_is x.0.standing.place x.3)
+  first_unclaimed {key = key} good first = let x = good.unclaimed.each 0 key (sym first) in (x.0, x.1, x.2, unclaimed_is x.0.standing.place x.3)
 
-  module _ (a : Inside C) (key : Key) (slots : TableView (Slot (Standing C))) (unclaimed : Buffer Key) (good : AreGoodRecords a)
+  module _ {a : Inside C} {key : Key} {slots : TableView (Slot (Standing C))} {unclaimed : Buffer Key} (good : AreGoodRecords a)
       (first : Some key ≡ slice_get a.unclaimed.items 0) (rest : unclaimed ≡ buffer (drop 1 a.unclaimed.items) a.unclaimed.capacity)
       (sets : Restands a.slots slots key.place (with_place Claimed)) where
     pub claim_good : AreGoodRecords (record a { slots = slots; unclaimed = unclaimed })
     claim_good =
-        let x = first_unclaimed a key good first in
+        let x = first_unclaimed good first in
         let u = set_at a.slots.slots key.place x.0 (Some (record x.0 { standing = with_place Claimed x.0.standing })) x.1 in
         rw (rest, sets x.0 x.1) (changed_good false false true true good x.1 u (ap is_conn x.3) refl refl (ap is_approval x.3) refl refl refl good.sizes.peak_holds refl
         (table_set good.table x.1 refl u) (other_order good.idle u x.1 (ap is_idle x.3) refl) (other_order good.births u x.1 (ap is_conn x.3) refl) (shorter_line good.unclaimed (sym first) u))
 
     pub claim_view : view_of_records (record a { slots = slots; unclaimed = unclaimed }) ≡ machine.after_claim key.number (view_of_records a)
     claim_view =
-        let x = first_unclaimed a key good first in
+        let x = first_unclaimed good first in
         rw (rest, sets x.0 x.1) (same_records _ _ refl
         (set_shown key.number key.place good.table x.1 x.2 (machine.standing_at Claimed))
         (set_line key.number key.place good.table x.1 x.2 (with_place Claimed x.0.standing) a.slots.line)
@@ -172,7 +154,7 @@ module _ {C : Type 0} where
   held_idle : (p : Place C) (h : Holder) → p ≡ place_with h → is_idle p ≡ false
   held_idle p h is = grind (arith, nat_tests)
 
-  module _ (a : Inside C) (strategy : QueueStrategy) (place number : ℕ) (holder : Holder) (out : Place C) (mid slots : TableView (Slot (Standing C)))
+  module _ {a : Inside C} (strategy : QueueStrategy) {place number : ℕ} (holder : Holder) {out : Place C} {mid slots : TableView (Slot (Standing C))}
       (good : AreGoodRecords a) (first : Some place ≡ slice_get a.slots.line (first_place strategy (length a.slots.line)))
       (number_is : (x : Slot (Standing C)) → slot_at mid place ≡ Some x → number ≡ x.number) (is : out ≡ place_with holder)
       (gone : mid ≡ record a.slots { line = machine.without place a.slots.line }) (sets : Restands mid slots place (with_place out)) where
@@ -217,15 +199,15 @@ module _ {C : Type 0} where
     pub taken_connection : (conn : C) (was_there : Place C) → ((x : Slot (Standing C)) → slot_at mid place ≡ Some x → was_there ≡ x.standing.place) → was_there ≡ Idle conn
         → (birth entered : ℕ) × (get (view_of_records a).places number ≡ Some (record { place = Idle conn; birth = birth; entered = entered }))
     taken_connection conn was_there was is = let x = taken in
-        (x.0.standing.birth, x.0.standing.entered, shown_at a place number x.0 good x.1 x.2 ∙ ap (λ (p : Place C). Some (with_place p x.0.standing)) (sym (was x.0 (stays x.0 x.1)) ∙ is))
+        (x.0.standing.birth, x.0.standing.entered, shown_at place good x.1 x.2 ∙ ap (λ (p : Place C). Some (with_place p x.0.standing)) (sym (was x.0 (stays x.0 x.1)) ∙ is))
 
   -- something is at a place in line, and after it has left the line
-  pub line_stands : (a : Inside C) (i place : ℕ) → AreGoodRecords a → Some place ≡ slice_get a.slots.line i → IsSome (slot_at a.slots place)
-  line_stands a i place good first = let x = good.idle.are.each i place (sym first) in subst IsSome (sym x.1) refl
+  pub line_stands : {a : Inside C} (i : ℕ) {place : ℕ} → AreGoodRecords a → Some place ≡ slice_get a.slots.line i → IsSome (slot_at a.slots place)
+  line_stands i {place} good first = let x = good.idle.are.each i place (sym first) in subst IsSome (sym x.1) refl
 
-  pub left_stands : (a : Inside C) (i place : ℕ) (mid : TableView (Slot (Standing C))) → AreGoodRecords a → Some place ≡ slice_get a.slots.line i
+  pub left_stands : {a : Inside C} (i : ℕ) {place : ℕ} {mid : TableView (Slot (Standing C))} → AreGoodRecords a → Some place ≡ slice_get a.slots.line i
       → mid ≡ record a.slots { line = machine.without place a.slots.line } → IsSome (slot_at mid place)
-  left_stands a i place mid good first gone = rw gone (line_stands a i place good first)
+  left_stands i good first gone = rw gone (line_stands i good first)
 
   -- nothing is taken where none is idle
   pub idle_none : (a : Inside C) (strategy : QueueStrategy) → slice_get a.slots.line (first_place strategy (length a.slots.line)) ≡ None → first_of strategy (view_of_records a).idle ≡ None
@@ -233,21 +215,21 @@ module _ {C : Type 0} where
       (no_number_at a.slots.slots a.slots.line (first_place strategy (length a.slots.line)) empty)
 
   -- the connection that is first became idle when its place says so
-  pub entered_first : (a : Inside C) (strategy : QueueStrategy) (place : ℕ) (x : Slot (Standing C)) → AreGoodRecords a
+  pub entered_first : {a : Inside C} (strategy : QueueStrategy) {place : ℕ} {x : Slot (Standing C)} → AreGoodRecords a
       → Some place ≡ slice_get a.slots.line (first_place strategy (length a.slots.line)) → slot_at a.slots place ≡ Some x
       → (k : ℕ) → first_of strategy (view_of_records a).idle ≡ Some k → x.standing.entered ≡ entered_in (get (view_of_records a).places k)
-  entered_first a strategy place x good first at_place k is =
+  entered_first {a} strategy {x = x} good first at_place k is =
       let first_is : first_of strategy (view_of_records a).idle ≡ Some x.number =
       rw (length-map a.slots.line (λ (i : ℕ). number_in numbered (slot_at a.slots i)))
       (number_at a.slots.slots a.slots.line (first_place strategy (length a.slots.line)) (sym first) at_place) in
       let both : Some x.number ≡ Some k = sym first_is ∙ is in
       let same : x.number ≡ k = cc in
-      sym (ap entered_in (shown_at a place k x good at_place same))
+      sym (ap entered_in (shown_at _ good at_place same))
 
   -- ---- hand-off
 
   -- a guard takes over a connection that is out
-  module _ (a : Inside C) (place q : ℕ) (x : Slot (Standing C)) (slots : TableView (Slot (Standing C))) (good : AreGoodRecords a)
+  module _ {a : Inside C} (place : ℕ) {q : ℕ} {x : Slot (Standing C)} {slots : TableView (Slot (Standing C))} (good : AreGoodRecords a)
       (at_place : slot_at a.slots place ≡ Some x) (number_is : x.number ≡ q) (was : is_out x.standing.place ≡ true)
       (sets : Restands a.slots slots place (with_place Guarded)) where
     pub handover_good : AreGoodRecords (record a { slots = slots })
@@ -267,27 +249,27 @@ module _ {C : Type 0} where
   -- ---- enter
 
   -- a place comes into line, and into the order of births where its connection is new
-  pub lined : (place : ℕ) (old mid now : TableView (Slot (Standing C))) → mid ≡ record old { line = old.line ++ place ∷ [] }
+  pub lined : (place : ℕ) (old : TableView (Slot (Standing C))) {mid now : TableView (Slot (Standing C))} → mid ≡ record old { line = old.line ++ place ∷ [] }
       → now ≡ record mid { births = mid.births ++ place ∷ [] } → now ≡ record old { line = old.line ++ place ∷ []; births = old.births ++ place ∷ [] }
-  lined place old mid now line births = rw (births, line) refl
+  lined place old line births = rw (births, line) refl
 
   -- a claimed approval, or a connection that was out, becomes idle
-  module _ (a : Inside C) (opening : Bool) (place q : ℕ) (x : Slot (Standing C)) (s : Standing C)
-      (mid slots : TableView (Slot (Standing C))) (good : AreGoodRecords a) (at_place : slot_at a.slots place ≡ Some x)
+  module _ (opening : Bool) {a : Inside C} (place : ℕ) {q : ℕ} {x : Slot (Standing C)} (s : Standing C)
+      {mid slots : TableView (Slot (Standing C))} (good : AreGoodRecords a) (at_place : slot_at a.slots place ≡ Some x)
       (was : comes_from opening x.standing.place ≡ true) (number_is : x.number ≡ q)
       (is_idle_now : is_idle s.place ≡ true) (sets : Restands a.slots mid place (λ _. s))
       (in_line : slots ≡ record mid { line = mid.line ++ place ∷ []; births = cond opening (mid.births ++ place ∷ []) mid.births }) where
-    pub enter_good : (n m now : ℕ) → n ≡ a.conns + one opening → m ≡ a.approved - one opening → NoneAfter now (view_of_records a) → s.entered ≡ now
+    pub enter_good : {n m now : ℕ} → n ≡ a.conns + one opening → m ≡ a.approved - one opening → NoneAfter now (view_of_records a) → s.entered ≡ now
         → s.birth ≡ cond opening now (birth_in (get (view_of_records a).places q)) → AreGoodRecords (record a { slots = slots; conns = n; approved = m })
-    enter_good n m now n_is m_is late entered birth =
-        let c : one opening ≤ a.approved = opened_counted a opening place x good at_place was in
+    enter_good {n} {m} {now} n_is m_is late entered birth =
+        let c : one opening ≤ a.approved = opened_counted opening place good at_place was in
         let e : one opening + one (not opening) ≡ 1 = either opening in
         let here = (idle_is s.place is_idle_now).1 in
         rw (in_line, sets x at_place) (changed_good (not opening) true opening false good at_place u (conn_from opening x.standing.place was) (idle_conn s.place is_idle_now) (omega arith)
         (approval_from opening x.standing.place was) (ap is_approval here) (omega arith) (omega arith) (omega (arith, good.sizes.peak_holds)) refl
         (table_set good.table at_place refl u)
-        (pushed_order good.idle u at_place (idle_from opening x.standing.place was) refl is_idle_now (λ i y h. let l : y.standing.entered ≤ now = (moments a now i y good late h).1 in omega arith))
-        (born opening now (conn_from opening x.standing.place was) late (birth ∙ ap (λ (r : Option (Standing C)). cond opening now (birth_in r)) (shown_at a place q x good at_place number_is)))
+        (pushed_order good.idle u at_place (idle_from opening x.standing.place was) refl is_idle_now (λ i y h. let l : y.standing.entered ≤ now = (moments i good late h).1 in omega arith))
+        (born opening now (conn_from opening x.standing.place was) late (birth ∙ ap (λ (r : Option (Standing C)). cond opening now (birth_in r)) (shown_at place good at_place number_is)))
         (other_line good.unclaimed at_place (unclaimed_from opening x.standing.place was) u))
       where
         u : Updates a.slots.slots (set a.slots.slots place (Some (record x { standing = s }))) place (Some (record x { standing = s }))
@@ -296,7 +278,7 @@ module _ {C : Type 0} where
         born : (o : Bool) (now : ℕ) → is_conn x.standing.place ≡ not o → NoneAfter now (view_of_records a) → s.birth ≡ cond o now x.standing.birth
             → IsOrderOf is_conn (λ s. s.birth) (set a.slots.slots place (Some (record x { standing = s }))) (cond o (a.slots.births ++ place ∷ []) a.slots.births)
         born true now was_none late birth = pushed_order good.births u at_place was_none refl (idle_conn s.place is_idle_now)
-            (λ i y e. let l : y.standing.birth ≤ now = (moments a now i y good late e).0 in omega arith)
+            (λ i y e. let l : y.standing.birth ≤ now = (moments i good late e).0 in omega arith)
         born false now was_one late birth = stays_order good.births u at_place was_one (idle_conn s.place is_idle_now) birth
 
     pub enter_view : (n m : ℕ) → n ≡ a.conns + one opening → m ≡ a.approved - one opening
@@ -308,26 +290,26 @@ module _ {C : Type 0} where
 
   -- Good records are good after one has ended, where the line of the unclaimed and the counts are
   -- right again.
-  pub ended_good : {a : Inside C} {conns approved place : ℕ} {slots : TableView (Slot (Standing C))} {unclaimed : Buffer Key} (x : Slot (Standing C)) (m k : Bool) → AreGoodRecords a
-      → slot_at a.slots place ≡ Some x → Frees a.slots slots place → is_conn x.standing.place ≡ m → conns + one m ≡ a.conns → is_approval x.standing.place ≡ k → approved + one k ≡ a.approved
+  pub ended_good : {a : Inside C} {conns approved place : ℕ} {slots : TableView (Slot (Standing C))} {unclaimed : Buffer Key} {x : Slot (Standing C)} (m k : Bool) → AreGoodRecords a
+      → slot_at a.slots place ≡ Some x → slots ≡ freed place a.slots → is_conn x.standing.place ≡ m → conns + one m ≡ a.conns → is_approval x.standing.place ≡ k → approved + one k ≡ a.approved
       → one m + one k ≡ 1
       → unclaimed.capacity ≡ a.unclaimed.capacity → (Updates a.slots.slots (set a.slots.slots place None) place None → IsLineOf is_unclaimed (set a.slots.slots place None) unclaimed.items)
       → AreGoodRecords (record a { slots = slots; unclaimed = unclaimed; conns = conns; approved = approved })
-  ended_good {a} {place = place} x m k good at_place gone m_is conns_sum k_is approved_sum one_less capacity line =
+  ended_good {a} {place = place} {x = x} m k good at_place gone m_is conns_sum k_is approved_sum one_less capacity line =
       let u = set_at a.slots.slots place x None at_place in
       rw gone (changed_good m false k false good at_place u m_is refl (omega arith) k_is refl (omega arith) (omega arith) (omega (arith, good.sizes.peak_holds)) capacity
       (table_removed good.table u) (left_order good.idle u refl) (left_order good.births u refl) (line u))
 
   -- a claimed approval, or a connection that was out, ends
-  module _ (a : Inside C) (opening : Bool) (place q : ℕ) (x : Slot (Standing C)) (slots : TableView (Slot (Standing C)))
+  module _ (opening : Bool) {a : Inside C} (place : ℕ) {q : ℕ} {x : Slot (Standing C)} {slots : TableView (Slot (Standing C))}
       (good : AreGoodRecords a) (at_place : slot_at a.slots place ≡ Some x) (number_is : x.number ≡ q)
-      (was : comes_from opening x.standing.place ≡ true) (gone : Frees a.slots slots place) where
-    pub close_good : (n m : ℕ) → n ≡ a.conns - one (not opening) → m ≡ a.approved - one opening → AreGoodRecords (record a { slots = slots; conns = n; approved = m })
-    close_good n m n_is m_is =
-        let c : one (not opening) ≤ a.conns = closed_counted a opening place x good at_place was in
-        let d : one opening ≤ a.approved = opened_counted a opening place x good at_place was in
+      (was : comes_from opening x.standing.place ≡ true) (gone : slots ≡ freed place a.slots) where
+    pub close_good : {n m : ℕ} → n ≡ a.conns - one (not opening) → m ≡ a.approved - one opening → AreGoodRecords (record a { slots = slots; conns = n; approved = m })
+    close_good {n} {m} n_is m_is =
+        let c : one (not opening) ≤ a.conns = closed_counted opening place good at_place was in
+        let d : one opening ≤ a.approved = opened_counted opening place good at_place was in
         let e : one opening + one (not opening) ≡ 1 = either opening in
-        ended_good x (not opening) opening good at_place gone (conn_from opening x.standing.place was) (omega arith) (approval_from opening x.standing.place was) (omega arith) (omega arith) refl
+        ended_good (not opening) opening good at_place gone (conn_from opening x.standing.place was) (omega arith) (approval_from opening x.standing.place was) (omega arith) (omega arith) refl
         (λ u. other_line good.unclaimed at_place (unclaimed_from opening x.standing.place was) u)
 
     pub close_view : (n m : ℕ) → n ≡ a.conns - one (not opening) → m ≡ a.approved - one opening
@@ -335,41 +317,40 @@ module _ {C : Type 0} where
     close_view n m n_is m_is = rw gone (same_records _ _ refl
         (cleared_shown q place good.table at_place number_is)
         (cleared_line q place good.table at_place number_is a.slots.line ∙ ap (numbers_at numbered a.slots.slots)
-        (without_absent place a.slots.line (enter_absent a opening place x good at_place was)))
+        (without_absent place a.slots.line (enter_absent opening place good at_place was)))
         refl n_is m_is refl)
 
   -- the unclaimed approval that is first ends
-  module _ (a : Inside C) (key : Key) (slots : TableView (Slot (Standing C))) (line : Buffer Key) (good : AreGoodRecords a)
+  module _ {a : Inside C} {key : Key} {slots : TableView (Slot (Standing C))} {line : Buffer Key} (good : AreGoodRecords a)
       (first : Some key ≡ slice_get a.unclaimed.items 0) (rest : line ≡ buffer (drop 1 a.unclaimed.items) a.unclaimed.capacity)
-      (gone : Frees a.slots slots key.place) where
+      (gone : slots ≡ freed key.place a.slots) where
     pub unclaimed_end_counted : 1 ≤ a.approved
-    unclaimed_end_counted = let x = first_unclaimed a key good first in approval_counted a key.place x.0 true good x.1 (ap is_approval x.3)
+    unclaimed_end_counted = let x = first_unclaimed good first in approval_counted key.place true good x.1 (ap is_approval x.3)
 
     pub unclaimed_end_good : AreGoodRecords (record a { slots = slots; unclaimed = line; approved = a.approved - 1 })
     unclaimed_end_good =
-        let x = first_unclaimed a key good first in
+        let x = first_unclaimed good first in
         let c : 1 ≤ a.approved = unclaimed_end_counted in
-        rw rest (ended_good x.0 false true good x.1 gone (ap is_conn x.3) (omega arith) (ap is_approval x.3) (omega arith) refl refl (λ u. shorter_line good.unclaimed (sym first) u))
+        rw rest (ended_good false true good x.1 gone (ap is_conn x.3) (omega arith) (ap is_approval x.3) (omega arith) refl refl (λ u. shorter_line good.unclaimed (sym first) u))
 
     pub unclaimed_end_view : view_of_records (record a { slots = slots; unclaimed = line; approved = a.approved - 1 }) ≡ machine.after_unclaimed_end key.number (view_of_records a)
     unclaimed_end_view =
-        let x = first_unclaimed a key good first in
+        let x = first_unclaimed good first in
         rw (rest, gone) (same_records _ _ refl
         (cleared_shown key.number key.place good.table x.1 x.2)
         (cleared_line key.number key.place good.table x.1 x.2 a.slots.line
-        ∙ ap (numbers_at numbered a.slots.slots) (without_absent key.place a.slots.line (places_absent a.slots.slots a.slots.line key.place x.0 good.idle.are x.1 (ap is_idle x.3))))
+        ∙ ap (numbers_at numbered a.slots.slots) (without_absent key.place a.slots.line (places_absent key.place good.idle.are x.1 (ap is_idle x.3))))
         (sym (drop-map (λ (k : Key). k.number) 1 a.unclaimed.items))
         refl refl refl)
 
   -- ---- records begin
 
   -- an approval, claimed or in line
-  module _ (a : Inside C) (claimed_now : Bool) (place : ℕ) (slots : TableView (Slot (Standing C))) (unclaimed : Buffer Key)
+  module _ {a : Inside C} (claimed_now : Bool) {place : ℕ} {slots : TableView (Slot (Standing C))} {unclaimed : Buffer Key}
       (good : AreGoodRecords a) (free : slot_at a.slots place ≡ None)
-      (within : place < length a.slots.slots) (takes : slots ≡ record a.slots {
-        slots = set a.slots.slots place (Some (record { number = a.next; standing = record { place = cond claimed_now Claimed Unclaimed; birth = 0; entered = 0 } }));
-        free = a.slots.free - 1;
-      }) (room : slots.free + 1 ≡ a.slots.free)
+      (within : place < length a.slots.slots)
+      (takes : slots ≡ filled place (record { number = a.next; standing = record { place = cond claimed_now Claimed Unclaimed; birth = 0; entered = 0 } }) a.slots)
+      (room : slots.free + 1 ≡ a.slots.free)
       (pushed : unclaimed ≡ buffer (a.unclaimed.items ++ cond claimed_now [] ((record { number = a.next; place = place }) ∷ []))
       a.unclaimed.capacity) where
     abbrev added : Slot (Standing C)
@@ -379,17 +360,15 @@ module _ {C : Type 0} where
     u = set_within a.slots.slots place (Some added) within
 
     tests : (b : Bool) → (is_conn {C = C} (cond b Claimed Unclaimed) ≡ false) × (is_idle {C = C} (cond b Claimed Unclaimed) ≡ false)
-    tests true = (refl, refl)
-    tests false = (refl, refl)
+    tests b = grind (arith, nat_tests)
 
     line_added : (b : Bool) → is_unclaimed {C = C} (cond claimed_now Claimed Unclaimed) ≡ not b → IsLineOf is_unclaimed (set a.slots.slots place (Some added))
         (a.unclaimed.items ++ cond b [] ((record { number = a.next; place = place }) ∷ []))
-    line_added true is = rw (append-nil a.unclaimed.items) (free_line good.unclaimed free u)
-    line_added false is = added_line (record { number = a.next; place = place }) good.unclaimed free u refl is
+    line_added true is = rw (append-nil a.unclaimed.items) (other_line good.unclaimed free refl u)
+    line_added false is = turned_line good.unclaimed (record { number = a.next; place = place }) free refl u refl is
 
     is_unclaimed_now : (b : Bool) → is_unclaimed {C = C} (cond b Claimed Unclaimed) ≡ not b
-    is_unclaimed_now true = refl
-    is_unclaimed_now false = refl
+    is_unclaimed_now b = grind (arith, nat_tests)
 
     pub approve_good : a.conns + a.approved < a.peak → AreGoodRecords (record a { next = a.next + 1; slots = slots; unclaimed = unclaimed; approved = a.approved + 1 })
     approve_good free_room =
@@ -411,11 +390,10 @@ module _ {C : Type 0} where
         refl refl refl)
 
   -- a connection under the next number, at a free place
-  module _ (a : Inside C) (place now : ℕ) (conn : C) (mid slots : TableView (Slot (Standing C))) (good : AreGoodRecords a)
-      (free : slot_at a.slots place ≡ None) (within : place < length a.slots.slots) (takes : mid ≡ record a.slots {
-        slots = set a.slots.slots place (Some (record { number = a.next; standing = record { place = Idle conn; birth = now; entered = now } }));
-        free = a.slots.free - 1;
-      }) (room : mid.free + 1 ≡ a.slots.free) (in_line : slots ≡ record mid { line = mid.line ++ place ∷ []; births = mid.births ++ place ∷ [] }) where
+  module _ {a : Inside C} {place : ℕ} (now : ℕ) (conn : C) {mid slots : TableView (Slot (Standing C))} (good : AreGoodRecords a)
+      (free : slot_at a.slots place ≡ None) (within : place < length a.slots.slots)
+      (takes : mid ≡ filled place (record { number = a.next; standing = record { place = Idle conn; birth = now; entered = now } }) a.slots)
+      (room : mid.free + 1 ≡ a.slots.free) (in_line : slots ≡ record mid { line = mid.line ++ place ∷ []; births = mid.births ++ place ∷ [] }) where
     abbrev newborn : Slot (Standing C)
     newborn = record { number = a.next; standing = record { place = Idle conn; birth = now; entered = now } }
 
@@ -424,8 +402,8 @@ module _ {C : Type 0} where
         let u = set_within a.slots.slots place (Some newborn) within in
         let r : (a.slots.free - 1) + 1 ≡ a.slots.free = rw takes at room in
         rw (in_line, takes) (changed_good false true false false good free u refl refl (omega arith) refl refl refl (omega arith) (omega arith) refl
-        (table_added good.table refl u) (pushed_order good.idle u free refl refl refl (λ i y e. (moments a now i y good late e).1))
-        (pushed_order good.births u free refl refl refl (λ i y e. (moments a now i y good late e).0)) (free_line good.unclaimed free u))
+        (table_added good.table refl u) (pushed_order good.idle u free refl refl refl (λ i y e. (moments i good late e).1))
+        (pushed_order good.births u free refl refl refl (λ i y e. (moments i good late e).0)) (other_line good.unclaimed free refl u))
 
     pub born_view : view_of_records (record a { next = a.next + 1; slots = slots; conns = a.conns + 1 }) ≡ machine.after_birth conn now (view_of_records a)
     born_view = rw (in_line, takes) (same_records _ _ refl
@@ -433,9 +411,21 @@ module _ {C : Type 0} where
         (added_pushed a.slots.slots a.next place newborn.standing free within a.slots.line good.idle.are) refl refl refl refl)
 
   -- a free place is in no order
-  module _ (a : Inside C) (place : ℕ) (good : AreGoodRecords a) (free : slot_at a.slots place ≡ None) where
+  module _ {a : Inside C} (place : ℕ) (good : AreGoodRecords a) (free : slot_at a.slots place ≡ None) where
     pub born_absent : Absent place a.slots.line
-    born_absent = free_absent a.slots.slots a.slots.line place good.idle.are free
+    born_absent = places_absent place good.idle.are free refl
 
     pub unborn_absent : Absent place a.slots.births
-    unborn_absent = free_absent a.slots.slots a.slots.births place good.births.are free
+    unborn_absent = places_absent place good.births.are free refl
+
+-- what a look-up finds, and how many there can be
+pub ruleset lookups = (none_shown, some_shown, idle_fit, unclaimed_fit)
+
+-- what the steps do
+pub ruleset steps = (lookups, claim_view, unclaimed_end_counted, unclaimed_end_view)
+
+pub ruleset takes = (line_stands, left_stands, idle_none)
+
+pub ruleset bears = (stands_within, born_absent, unborn_absent, born_view, lined)
+
+pub ruleset approves = (approve_good, approve_view, unclaimed_fit)

@@ -1,6 +1,6 @@
 -- Laws of tables of places.
-use Rattle.std.proofs.lemmas.Bool.Decides.{nat_tests}
-use Rattle.bb8_tables.proofs.Words.{◌≡◌, ◌≢◌, ◌⊎◌, ℕ, zero, suc, ◌+◌, ◌<◌, ◌≤◌, Bool, true, false, cond, eqb, List, [], ◌∷◌, ◌++◌, length, Option, Some, None, get_or, slice_get, refl, sym, ap, ◌∙◌, inl, inr, arith, ne_eqb, eq-eqb, subst, nat_cmp, set, get_or-set_other, get_or-set_same, option_map, FinMap, insert, remove, get, get-empty, tally, one, values_at, IsLine, IsTable, IsDistinct, same_or_not, get_inserted, get_removed, same_gets}
+use Rattle.bb8_tables.proofs.Words.{◌≡◌, ◌≢◌, ◌⊎◌, ℕ, zero, suc, ◌+◌, ◌<◌, ◌≤◌, Bool, true, false, cond, eqb, List, [], ◌∷◌, ◌++◌, length, Option, Some, None, get_or, slice_get, refl, sym, ap, ◌∙◌, inl, inr, arith, ne_eqb, eq-eqb, subst, nat_cmp, set, get_or-set_other, get_or-set_same, option_map, FinMap, insert, remove, get, get-empty, tally, one, values_at, IsLine, IsTable, IsDistinct, same_or_not, get_inserted, get_removed, same_gets, nat_tests}
+use Rattle.std.proofs.lemmas.List.{get_or_past}
 
 -- a place has another content, and nothing else has changed
 pub record Updates {X : Type 0} (old new : List (Option X)) (place : ℕ) (slot : Option X) : Type 0 where
@@ -9,9 +9,7 @@ pub record Updates {X : Type 0} (old new : List (Option X)) (place : ℕ) (slot 
 
 -- a place with content is inside
 pub inside : {X : Type 0} (xs : List (Option X)) (i : ℕ) (x : X) → get_or xs i None ≡ Some x → i < length xs
-inside [] i x e = cc
-inside (y ∷ xs) zero x e = omega arith
-inside (y ∷ xs) (suc i) x e = omega (arith, inside xs i x e)
+inside xs i x e = grind (arith, nat_tests, get_or_past xs i None)
 
 -- a place has another content from now on
 pub set_within : {X : Type 0} (xs : List (Option X)) (place : ℕ) (slot : Option X) → place < length xs → Updates xs (set xs place slot) place slot
@@ -136,30 +134,21 @@ module _ {X K : Type 0} (number : X → ℕ) (test : X → Bool) (key leads : K 
 -- ---- tallies
 
 module _ {X : Type 0} (p : Option X → Bool) (nothing : p None ≡ false) where
-  pub tally_same : (xs ys : List (Option X)) → ((i : ℕ) → get_or ys i None ≡ get_or xs i None) → tally p ys ≡ tally p xs
-  tally_same [] [] h = refl
-  tally_same [] (y ∷ ys) h = let first : y ≡ None = h 0 in
-      omega (arith, tally_same [] ys (λ i. h (suc i)), ap (λ (o : Option X). one (p o)) first ∙ ap one nothing)
-  tally_same (x ∷ xs) [] h = let first : None ≡ x = h 0 in
-      omega (arith, tally_same xs [] (λ i. h (suc i)), ap (λ (o : Option X). one (p o)) (sym first) ∙ ap one nothing)
-  tally_same (x ∷ xs) (y ∷ ys) h = let first : y ≡ x = h 0 in
-      omega (arith, tally_same xs ys (λ i. h (suc i)), ap (λ (o : Option X). one (p o)) first)
+  weighs : {x y : Option X} → y ≡ x → one (p y) ≡ one (p x)
+  weighs e = ap (λ (o : Option X). one (p o)) e
 
   pub tally_changed : (xs ys : List (Option X)) (key : ℕ) → ((other : ℕ) → other ≢ key → get_or ys other None ≡ get_or xs other None)
       → tally p ys + one (p (get_or xs key None)) ≡ tally p xs + one (p (get_or ys key None))
   tally_changed [] [] key h = refl
-  tally_changed [] (y ∷ ys) zero h = omega (arith, tally_same [] ys (λ i. h (suc i) (λ e. omega arith)), ap one nothing)
-  tally_changed [] (y ∷ ys) (suc key) h =
-      let first : y ≡ None = h 0 (λ e. omega arith) in
-      omega (arith, ap (λ (o : Option X). one (p o)) first ∙ ap one nothing, tally_changed [] ys key (λ i n. h (suc i) (λ s. n (let t : i ≡ key = omega arith in t))))
-  tally_changed (x ∷ xs) [] zero h = omega (arith, tally_same xs [] (λ i. h (suc i) (λ e. omega arith)), ap one nothing)
-  tally_changed (x ∷ xs) [] (suc key) h =
-      let first : None ≡ x = h 0 (λ e. omega arith) in
-      omega (arith, ap (λ (o : Option X). one (p o)) (sym first) ∙ ap one nothing, tally_changed xs [] key (λ i n. h (suc i) (λ s. n (let t : i ≡ key = omega arith in t))))
-  tally_changed (x ∷ xs) (y ∷ ys) zero h = omega (arith, tally_same xs ys (λ i. h (suc i) (λ e. omega arith)))
-  tally_changed (x ∷ xs) (y ∷ ys) (suc key) h =
-      let first : y ≡ x = h 0 (λ e. omega arith) in
-      omega (arith, ap (λ (o : Option X). one (p o)) first, tally_changed xs ys key (λ i n. h (suc i) (λ s. n (let t : i ≡ key = omega arith in t))))
+  tally_changed [] (y ∷ ys) zero h = omega (arith, tally_changed [] ys zero (λ i n. h (suc i) (λ e. omega arith)), weighs (h 1 (λ e. omega arith)), ap one nothing)
+  tally_changed [] (y ∷ ys) (suc key) h = omega (arith, weighs (h 0 (λ e. omega arith)), ap one nothing, tally_changed [] ys key (λ i n. h (suc i) (λ s. n (let t : i ≡ key = omega arith in t))))
+  tally_changed (x ∷ xs) [] zero h = omega (arith, tally_changed xs [] zero (λ i n. h (suc i) (λ e. omega arith)), weighs (h 1 (λ e. omega arith)), ap one nothing)
+  tally_changed (x ∷ xs) [] (suc key) h = omega (arith, weighs (h 0 (λ e. omega arith)), ap one nothing, tally_changed xs [] key (λ i n. h (suc i) (λ s. n (let t : i ≡ key = omega arith in t))))
+  tally_changed (x ∷ xs) (y ∷ ys) zero h = omega (arith, tally_changed xs ys zero (λ i n. h (suc i) (λ e. omega arith)), weighs (h 1 (λ e. omega arith)))
+  tally_changed (x ∷ xs) (y ∷ ys) (suc key) h = omega (arith, weighs (h 0 (λ e. omega arith)), tally_changed xs ys key (λ i n. h (suc i) (λ s. n (let t : i ≡ key = omega arith in t))))
+
+  pub tally_same : (xs ys : List (Option X)) → ((i : ℕ) → get_or ys i None ≡ get_or xs i None) → tally p ys ≡ tally p xs
+  tally_same xs ys h = omega (arith, tally_changed xs ys 0 (λ i n. h i), weighs (h 0))
 
   -- so after a change from what passes or not to what passes or not
   pub tally_set : {old new : List (Option X)} {place n : ℕ} {was is : Option X} (b c : Bool) → tally p old ≡ n → get_or old place None ≡ was → Updates old new place is

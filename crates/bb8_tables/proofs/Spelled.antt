@@ -1,6 +1,5 @@
 -- Laws of links that spell a list of places.
-use Rattle.std.proofs.lemmas.Bool.Decides.{nat_tests}
-use Rattle.bb8_tables.proofs.Words.{◌≡◌, ◌≢◌, ◌⊎◌, ℕ, zero, suc, ◌+◌, ◌<◌, ◌≤◌, false, eqb, List, [], ◌∷◌, ◌++◌, length, slice_get, Some, None, refl, sym, ap, ◌∙◌, inl, inr, arith, subst, ne_eqb, eqb_tells, Absent, walk, LinksLead, Spells, Joins, without}
+use Rattle.bb8_tables.proofs.Words.{◌≡◌, ◌≢◌, ◌⊎◌, ℕ, zero, suc, ◌+◌, ◌-◌, ◌<◌, ◌≤◌, false, eqb, List, [], ◌∷◌, ◌++◌, length, slice_get, Some, None, refl, sym, ap, ◌∙◌, inl, inr, arith, subst, ne_eqb, eqb_tells, Absent, walk, LinksLead, Spells, Joins, without, nat_tests}
 
 -- ---- lists of places
 
@@ -191,11 +190,13 @@ module _ (af be : ℕ → ℕ) (z : ℕ) where
   last_from c x [] l = let e : be z ≡ x = l.2.1 in ap (λ (q : ℕ). Some q) (sym e)
   last_from c x (y ∷ ys) l = last_from x y ys l.2
 
-  pub first_is : (x : ℕ) (xs : List ℕ) → Spells af be z (x ∷ xs) → slice_get (x ∷ xs) 0 ≡ Some (af z)
-  first_is x xs s = let e : af z ≡ x = s.leads.0 in ap (λ (q : ℕ). Some q) (sym e)
+  pub first_is : (xs : List ℕ) → Spells af be z xs → 0 < length xs → slice_get xs 0 ≡ Some (af z)
+  first_is [] s h = absurd (omega arith)
+  first_is (x ∷ xs) s h = let e : af z ≡ x = s.leads.0 in ap (λ (q : ℕ). Some q) (sym e)
 
-  pub last_is : (x : ℕ) (xs : List ℕ) → Spells af be z (x ∷ xs) → slice_get (x ∷ xs) (length xs) ≡ Some (be z)
-  last_is x xs s = last_from z x xs s.leads
+  pub last_is : (xs : List ℕ) → Spells af be z xs → 0 < length xs → slice_get xs (length xs - 1) ≡ Some (be z)
+  last_is [] s h = absurd (omega arith)
+  last_is (x ∷ xs) s h = rw (let n : length (x ∷ xs) - 1 ≡ length xs = omega arith in n) (last_from z x xs s.leads)
 
   from_here : (c p : ℕ) (passed rest : List ℕ) → LinksLead af be c (passed ++ p ∷ rest) z → LinksLead af be p rest z
   from_here c p [] rest l = l.2

@@ -1,8 +1,9 @@
 -- What a table shows under its numbers, and what it shows after one place has changed.
-use Rattle.bb8_tables.proofs.Words.{◌≡◌, ℕ, ◌+◌, ◌<◌, Bool, List, length, [], ◌∷◌, ◌++◌, Option, Some, None, IsSome, set, option_map, get_or, slice_get, refl, sym, ap, ◌∙◌, subst, nat_cmp, slice_get-map, FinMap, insert, remove, get, Slot, TableView, slot_at, without, values_at, IsTable, ArePlaces, number_in, numbers_at}
-use Rattle.bb8_tables.proofs.Lines.{left_away, free_avoids}
+use Rattle.bb8_tables.proofs.Words.{◌≡◌, ℕ, ◌<◌, Bool, List, length, [], ◌∷◌, ◌++◌, Option, Some, None, IsSome, set, option_map, get_or, slice_get, refl, sym, ap, ◌∙◌, subst, nat_cmp, slice_get-map, FinMap, insert, remove, get, Slot, TableView, slot_at, Restands, without, values_at, IsTable, ArePlaces, number_in, numbers_at}
+use Rattle.bb8_tables.proofs.Lines.{left_away, avoids}
 use Rattle.bb8_tables.proofs.Numbers.{numbers_kept, numbers_same, numbers_push, numbers_without}
 use Rattle.bb8_tables.proofs.Slots.{set_at, set_within, held_at, held_set, held_added, held_removed}
+use Rattle.std.proofs.Common.{IfSome}
 
 module _ {S : Type 0} where
   abbrev pub numbered : Slot S → ℕ
@@ -12,17 +13,13 @@ module _ {S : Type 0} where
   abbrev pub shown : List (Option (Slot S)) → FinMap nat_cmp S
   shown slots = values_at numbered (λ x. x.standing) slots
 
-  -- a place has another content, under the same number
-  abbrev pub Restands : TableView (Slot S) → TableView (Slot S) → ℕ → (S → S) → Type 0
-  Restands old new place f = (x : Slot S) → slot_at old place ≡ Some x → new ≡ record old { slots = set old.slots place (Some (record x { standing = f x.standing })) }
-
-  -- what a freed place leaves
-  abbrev pub Frees : TableView (Slot S) → TableView (Slot S) → ℕ → Type 0
-  Frees old new place = new ≡ record { slots = set old.slots place None; line = without place old.line; births = without place old.births; free = old.free + 1 }
+  -- what a look finds at the place of a number has that number
+  pub named : {o : Option (Slot S)} {q : ℕ} {x y : Slot S} → o ≡ Some x → x.number ≡ q → o ≡ Some y → y.number ≡ q
+  named {q = q} e is f = subst (λ (o : Option (Slot S)). IfSome o (λ z. z.number ≡ q)) (sym e ∙ f) is
 
   -- something is there then
-  pub stands_then : (old mid : TableView (Slot S)) (place : ℕ) (f : S → S) (x : Slot S) → slot_at old place ≡ Some x → Restands old mid place f → IsSome (slot_at mid place)
-  stands_then old mid place f x e sets = rw (sets x e) (subst IsSome (sym (set_at old.slots place x (Some (record x { standing = f x.standing })) e).changed) refl)
+  pub stands_then : (old : TableView (Slot S)) (place : ℕ) (f : S → S) {mid : TableView (Slot S)} {x : Slot S} → slot_at old place ≡ Some x → Restands old mid place f → IsSome (slot_at mid place)
+  stands_then old place f {x = x} e sets = rw (sets x e) (subst IsSome (sym (set_at old.slots place x (Some (record x { standing = f x.standing })) e).changed) refl)
 
   pub stands_within : (slots : List (Option (Slot S))) (place : ℕ) (x : Slot S) → place < length slots → IsSome (get_or (set slots place (Some x)) place None)
   stands_within slots place x within = subst IsSome (sym (set_within slots place (Some x) within).changed) refl
@@ -75,7 +72,7 @@ module _ {S : Type 0} where
     added_shown t = held_added t (λ y. y.standing) free refl (set_within slots place (Some newcomer) within)
 
     pub added_line : {test : Slot S → Bool} (places : List ℕ) → ArePlaces test slots places → numbers_at numbered (set slots place (Some newcomer)) places ≡ numbers_at numbered slots places
-    added_line places are = numbers_kept numbered slots _ place places (free_avoids slots places place are free) (set_within slots place (Some newcomer) within).others
+    added_line places are = numbers_kept numbered slots _ place places (avoids are place free refl) (set_within slots place (Some newcomer) within).others
 
     pub added_pushed : {test : Slot S → Bool} (places : List ℕ) → ArePlaces test slots places
         → numbers_at numbered (set slots place (Some newcomer)) (places ++ place ∷ []) ≡ numbers_at numbered slots places ++ next ∷ []

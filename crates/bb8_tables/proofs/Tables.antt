@@ -1,30 +1,17 @@
 -- What the steps of a table do to what it shows.
-use Rattle.std.proofs.lemmas.Bool.Decides.{nat_tests}
-use Rattle.bb8_tables.proofs.Words.{◌≡◌, ◌≢◌, get_or-set_other, get_or-set_same, ℕ, zero, suc, ◌+◌, ◌<◌, ◌≤◌, Bool, false, cond, eqb, List, [], ◌∷◌, ◌++◌, length, set, slice_get, get_or, Option, Some, None, IsSome, refl, sym, ap, ◌∙◌, arith, subst, length-append, length-map, map-set, map_push, eqb_tells, slice_get_read, with_item, end_of_numbers, Slot, most_places, slot_in, slots_of, view_of_table, IsGoodTable, AreFree, TableView, Absent, inl, inr}
+use Rattle.bb8_tables.proofs.Words.{◌≡◌, get_or-set_other, get_or-set_same, ℕ, zero, suc, ◌+◌, ◌<◌, ◌≤◌, Bool, false, cond, eqb, List, [], ◌∷◌, ◌++◌, length, set, slice_get, get_or, Option, Some, None, IsSome, refl, sym, ap, ◌∙◌, arith, subst, length-append, length-map, map-set, map_push, eqb_tells, slice_get_read, with_item, end_of_numbers, Slot, most_places, slot_in, slots_of, view_of_table, IsGoodTable, AreFree, TableView, Absent, inl, inr, cases_lt, nat_tests}
 use Rattle.std.specs.Prelude.{vec_capacity}
 use Rattle.bb8_tables.specs.declared.table.Table.TheInside.{Inside}
-use Rattle.bb8_tables.proofs.Spelled.{few_below, Distinct, Below, push_absent}
-use Rattle.std.proofs.lemmas.List.{length-set}
+use Rattle.bb8_tables.proofs.Spelled.{few_below, Distinct, Below, absent_push, push_absent}
+use Rattle.std.proofs.lemmas.List.{length-set, get_or_past, get_or_append_left, get_or_push}
 
 -- ---- places that are free
-
--- what is absent from a list with one more at its end
-absent_init : (q : ℕ) (ps : List ℕ) (p : ℕ) → Absent q (ps ++ p ∷ []) → Absent q ps × (p ≢ q)
-absent_init q [] p a = (tt, a.0)
-absent_init q (x ∷ ps) p a = let r = absent_init q ps p a.1 in ((a.0, r.0), r.1)
 
 none_stands : {X : Type 0} (o : Option X) → o ≡ None → IsSome o → ⊥
 none_stands o e h = grind (arith, nat_tests)
 
 pub get_or_none : {X : Type 0} (xs : List (Option X)) (i : ℕ) → get_or (xs ++ None ∷ []) i None ≡ get_or xs i None
-get_or_none [] zero = refl
-get_or_none [] (suc i) = refl
-get_or_none (x ∷ xs) zero = refl
-get_or_none (x ∷ xs) (suc i) = get_or_none xs i
-
-get_or_past : {X : Type 0} (xs : List (Option X)) → get_or xs (length xs) None ≡ None
-get_or_past [] = refl
-get_or_past (x ∷ xs) = get_or_past xs
+get_or_none xs i = grind (arith, nat_tests, cases_lt i (length xs), get_or_append_left xs (None ∷ []) None i, get_or_past, get_or_push, length-append)
 
 module _ {X : Type 0} where
   -- the place after the last one is not free
@@ -34,9 +21,7 @@ module _ {X : Type 0} where
 
   -- a place with content is inside
   pub stands_inside : (xs : List (Option X)) (i : ℕ) → IsSome (get_or xs i None) → i < length xs
-  stands_inside [] i h = cc
-  stands_inside (x ∷ xs) zero h = omega arith
-  stands_inside (x ∷ xs) (suc i) h = omega (arith, stands_inside xs i h)
+  stands_inside xs i h = grind (arith, nat_tests, get_or_past xs i None)
 
   -- a place with content is not free
   pub stands_absent : (xs : List (Option X)) (ps : List ℕ) (p : ℕ) → AreFree xs ps → IsSome (get_or xs p None) → Absent p ps
@@ -61,7 +46,7 @@ module _ {X : Type 0} where
   -- the last one is free no more
   pub pop_free : (xs : List (Option X)) (ps : List ℕ) (p : ℕ) → AreFree xs (ps ++ p ∷ []) → AreFree xs ps × (0 < p) × (p < length xs) × (get_or xs p None ≡ None) × Absent p ps
   pop_free xs [] p a = (tt, a.0, a.1, a.2, tt)
-  pop_free xs (q ∷ ps) p a = grind (arith, nat_tests, pop_free xs ps p a.4, absent_init q ps p a.3)
+  pop_free xs (q ∷ ps) p a = grind (arith, nat_tests, pop_free xs ps p a.4, absent_push q p ps a.3)
 
   free_told : (xs : List (Option X)) (ps : List ℕ) → AreFree xs ps → Distinct ps × Below (length xs) ps
   free_told xs [] a = (tt, tt)

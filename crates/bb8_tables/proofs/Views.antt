@@ -1,6 +1,5 @@
 -- Views are the same that are the same field by field.
-use Rattle.std.proofs.lemmas.Bool.Decides.{nat_tests}
-use Rattle.bb8_tables.proofs.Words.{◌≡◌, Result, OnErr, RecordsView, GetsView, arith}
+use Rattle.bb8_tables.proofs.Words.{◌≡◌, Result, OnErr, RecordsView, GetsView, arith, nat_tests}
 
 pub same_records : {C : Type 0} (s t : RecordsView C) → s.next ≡ t.next → s.places ≡ t.places → s.idle ≡ t.idle → s.unclaimed ≡ t.unclaimed
     → s.conns ≡ t.conns → s.approved ≡ t.approved → s.peak ≡ t.peak → s ≡ t

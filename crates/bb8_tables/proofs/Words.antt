@@ -2,7 +2,7 @@
 pub use Rattle.std.proofs.Common.{◌≡◌, ◌≢◌, ℕ, ◌+◌, ◌-◌, ◌<◌, ◌≤◌, Bool, true, false, cond, not, List, [], ◌∷◌, ◌++◌, map, length, Option, Some, None, IsSome, set, get_or, slice_get, drop, refl, sym, ap, ◌∙◌, arith, subst, length-append, append-nil, append_assoc, is_some, ◌&&◌, ◌⊎◌, inl, inr, ⊎_elim, zero, suc, option_map, eq-eqb, ne_eqb, get_or-set_other, get_or-set_same, Result, Ok, Err, OnOk, OnErr, eqb, nat_cmp, append_assoc, max}
 pub use Rattle.std.proofs.lemmas.List.{map_push, drop-map, length-map, map-set, map-append}
 pub use Rattle.std.specs.FinMap.{insert, get, FinMap, remove, get-empty}
-pub use Rattle.bb8_tables.specs.TableView.{TableView, slot_at}
+pub use Rattle.bb8_tables.specs.TableView.{TableView, slot_at, filled, freed, Restands}
 pub use Rattle.bb8_tables.specs.Ordered.{Ordered, most_places}
 pub use Rattle.bb8_tables.specs.Tables.{slot_in, slots_of, view_of_table, IsGoodTable, AreFree}
 pub use Rattle.bb8_tables.specs.Spelled.{Absent, Spells, walk, Joins, LinksLead}
@@ -27,7 +27,7 @@ pub use Rattle.bb8_types.specs.declared.standing.Getting.{Getting}
 pub use Rattle.bb8_types.specs.Settings.{Settings, settings_of}
 pub use Rattle.bb8_tables.specs.declared.closed.Closed.{Closed}
 pub use Rattle.bb8_tables.specs.Closed.{offered_all, closed_in, closed_of, offered}
-pub use Rattle.bb8_tables.specs.Dues.{EndsFirst, Ends, EndsIdle, Passes}
+pub use Rattle.bb8_tables.specs.Dues.{Ends, EndsIdle, Passes}
 pub use Rattle.bb8_tables.specs.Machine.{without}
 pub use Rattle.bb8_tables.specs.Reaps.{after_reaped, after_reap, AreFirst, beyond, Reaps, AreReaped}
 pub use Rattle.std.proofs.lemmas.Option.{slice_get-map, slice_get_past, slice_get_read, slice_get_within}
@@ -35,7 +35,7 @@ pub use Rattle.std.proofs.lemmas.Bool.{leb-false, lt-leb, cases_lt}
 pub use Rattle.bb8_tables.specs.declared.records.reaps.Age.TheVariants.{Young, Out, Aged}
 pub use Rattle.bb8_tables.specs.AccessCount.{AccessCount, AddsReads, counts_read, counts_search}
 pub use Rattle.std.proofs.Math.Seq.{map-set_same}
-pub use Rattle.std.proofs.lemmas.Bool.Decides.{eqb_tells}
+pub use Rattle.std.proofs.lemmas.Bool.Decides.{eqb_tells, nat_tests}
 pub use Rattle.std.specs.declared.alloc.AllocError.{AllocError}
 pub use Rattle.std.specs.Vec.{with_item}
 pub use Rattle.bb8_tables.specs.declared.records.Records.TheInside.{Inside}

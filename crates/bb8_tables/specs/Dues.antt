@@ -1,5 +1,5 @@
 -- The effect of the walks of a reap.
-use Rattle.std.specs.Prelude.{◌≡◌, ◌⊎◌, ℕ, ◌+◌, ◌≤◌, Bool, true, false, List, [], ◌∷◌, ◌++◌, length, Option, Some, slice_get}
+use Rattle.std.specs.Prelude.{◌≡◌, ◌⊎◌, ℕ, ◌+◌, ◌≤◌, Bool, true, false, List, ◌∷◌, ◌++◌, length, Option, Some, slice_get}
 use Rattle.std.specs.FinMap.{get}
 use Rattle.bb8_types.specs.declared.standing.Standing.{Standing}
 use Rattle.bb8_types.specs.Settings.{Settings}
@@ -12,17 +12,9 @@ use Rattle.bb8_tables.specs.declared.closed.Closed.{Closed}
 use Rattle.bb8_tables.specs.Closed.{offered_all, closed_of}
 use Rattle.bb8_tables.specs.TableView.{TableView, slot_at}
 use Rattle.bb8_tables.specs.Views.{RecordsView}
-use Rattle.bb8_tables.specs.Reaps.{after_reaped, after_reap, AreReaped, AreFirst, beyond}
+use Rattle.bb8_tables.specs.Reaps.{after_reap, AreReaped, AreFirst, beyond}
 
 module _ {C : Type 0} where
-  -- whether one idle connection ended because it passed a test, and was offered to a list
-  pub record EndsFirst (test : Option (Standing C) → Bool) (old : RecordsView C) (k : ℕ) (new : RecordsView C) (list offered : Buffer (Closed C)) : Type 0 where
-    pub is_due : test (get old.places k) ≡ true
-    pub state : new ≡ after_reaped k old
-    pub conns : new.conns + 1 ≡ old.conns
-    pub idle : length new.idle + 1 ≡ length old.idle
-    pub listed : offered ≡ offered_all (closed_of (k ∷ []) old.places) list
-
   -- Whether these idle connections ended, one after another, each because it passed a test; they
   -- were offered to a list, and `outcome` is their count.
   pub record Ends (test : Option (Standing C) → Bool) (old : RecordsView C) (ks : List ℕ) (new : RecordsView C) (outcome : ℕ) (list offered : Buffer (Closed C)) : Type 0 where

@@ -1,6 +1,5 @@
 -- Ordered lists of indexes, and the links that store them.
-use Rattle.std.specs.Prelude.{◌≤◌, ℕ, List, Option, Some, None, slice_get, refl}
-use Rattle.std.specs.Coded.{Coded, code_by, coded×, coded_ℕ, coded_list}
+use Rattle.std.specs.Prelude.{◌≤◌, ℕ, List, Option, Some, None, slice_get}
 use Rattle.bb8_tables.specs.declared.line.Link.{Link}
 use Rattle.bb8_tables.specs.declared.line.Line.TheInside.{Inside}
 use Rattle.bb8_tables.specs.Spelled.{walk, Spells, Joins}
@@ -9,9 +8,6 @@ use Rattle.bb8_tables.specs.Spelled.{walk, Spells, Joins}
 pub record Ordered : Type 0 where
   pub size : ℕ
   pub places : List ℕ
-
-abbrev pub ordered_code : Coded Ordered
-ordered_code = code_by (ℕ × List ℕ) (coded× coded_ℕ (coded_list coded_ℕ)) (λ t. (t.size, t.places)) (λ p. record { size = p.0; places = p.1 }) (λ _. refl)
 
 -- the most indexes: as many as links of 32 bits can distinguish
 abbrev pub most_places : ℕ

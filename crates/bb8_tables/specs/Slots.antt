@@ -1,7 +1,7 @@
 -- The content of a table, and lists of keys into it.
-use Rattle.std.specs.Prelude.{◌≡◌, ◌≢◌, ◌<◌, ◌≤◌, ℕ, Bool, true, false, List, [], ◌∷◌, map, Option, Some, None, slice_get, get_or}
+use Rattle.std.specs.Prelude.{◌≡◌, ◌<◌, ◌≤◌, ℕ, Bool, true, false, List, [], ◌∷◌, map, Option, Some, None, slice_get, get_or}
 use Rattle.std.specs.Ordering.{nat_cmp}
-use Rattle.std.specs.FinMap.{FinMap, empty, insert, get}
+use Rattle.std.specs.FinMap.{FinMap, empty, insert}
 use Rattle.bb8_tables.specs.Spelled.{Absent}
 
 -- the map from the number of each entry to its value
@@ -9,11 +9,6 @@ abbrev pub values_at : {X S : Type 0} → (X → ℕ) → (X → S) → List (Op
 values_at number value [] = empty
 values_at number value (None ∷ xs) = values_at number value xs
 values_at number value (Some x ∷ xs) = insert (values_at number value xs) (number x) (value x)
-
--- whether the entries hold exactly this map
-pub record Holds {X S : Type 0} (number : X → ℕ) (value : X → S) (xs : List (Option X)) (m : FinMap nat_cmp S) : Type 0 where
-  pub each : (i : ℕ) (x : X) → get_or xs i None ≡ Some x → get m (number x) ≡ Some (value x)
-  pub none : (q : ℕ) → ((i : ℕ) (x : X) → get_or xs i None ≡ Some x → number x ≢ q) → get m q ≡ None
 
 -- whether each key leads to an entry that has its number and passes the test, and no two lead to
 -- the same one

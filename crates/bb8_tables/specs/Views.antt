@@ -1,15 +1,14 @@
 -- The views of the records and of the gets.
-use Rattle.std.specs.Prelude.{[], ◌≡◌, ◌≤◌, ℕ, zero, suc, Bool, true, List, Option, Some, None, refl}
+use Rattle.std.specs.Prelude.{[], ◌≡◌, ◌≤◌, ℕ, zero, suc, List, Option, Some, None, refl}
 use Rattle.std.specs.FinMap.{empty, FinMap}
-use Rattle.std.specs.Coded.{Coded, code_by, coded×, coded_ℕ, coded_bool, coded_list, coded_option}
+use Rattle.std.specs.Coded.{Coded, code_by, coded×, coded_ℕ, coded_list, coded_option}
 use Rattle.std.specs.Ordering.{nat_cmp}
 use Rattle.std.specs.FinMap as map
 use Rattle.bb8_types.specs.declared.standing.Place.{Place}
 use Rattle.bb8_types.specs.declared.standing.Place.TheVariants.{Unclaimed, Claimed, Idle, Held, Guarded}
 use Rattle.bb8_types.specs.declared.standing.Standing.{Standing}
-use Rattle.bb8_types.specs.declared.standing.GetPlace.{GetPlace}
-use Rattle.bb8_types.specs.declared.standing.GetPlace.TheVariants.{Active, Waiting, Holding}
 use Rattle.bb8_types.specs.declared.standing.Getting.{Getting}
+use Rattle.bb8_types.specs.contracts.standing.Getting as getting
 
 -- The records that have not ended, with their sizes and orders.
 pub record RecordsView (C : Type 0) : Type 0 where
@@ -74,30 +73,6 @@ abbrev standing_code : {C : Type 0} → Coded C → Coded (Standing C)
 standing_code {C} c = code_by (Place C × (ℕ × ℕ)) (coded× (place_code c) (coded× coded_ℕ coded_ℕ)) (λ s. (s.place, (s.birth, s.entered)))
     (λ p. record { place = p.0; birth = p.1.0; entered = p.1.1 }) (λ _. refl)
 
-abbrev get_place_code : Coded GetPlace
-get_place_code = code_by (ℕ × (Bool × ℕ)) (coded× coded_ℕ (coded× coded_bool coded_ℕ)) to back again
-  where
-    to : GetPlace → ℕ × (Bool × ℕ)
-    to Active = (0, (true, 0))
-    to (Waiting notified) = (1, (notified, 0))
-    to (Holding k) = (2, (true, k))
-
-    back : ℕ × (Bool × ℕ) → GetPlace
-    back p = from p.0 p.1.0 p.1.1
-      where
-        from : ℕ → Bool → ℕ → GetPlace
-        from zero notified k = Active
-        from (suc zero) notified k = Waiting notified
-        from _ notified k = Holding k
-
-    again : (p : GetPlace) → back (to p) ≡ p
-    again Active = refl
-    again (Waiting notified) = refl
-    again (Holding k) = refl
-
-abbrev getting_code : Coded Getting
-getting_code = code_by (GetPlace × Option ℕ) (coded× get_place_code (coded_option coded_ℕ)) (λ g. (g.place, g.first_wait)) (λ p. record { place = p.0; first_wait = p.1 }) (λ _. refl)
-
 abbrev pub records_code : {C : Type 0} → Coded C → Coded (RecordsView C)
 records_code {C} c =
     code_by
@@ -111,7 +86,7 @@ abbrev pub gets_code : Coded GetsView
 gets_code =
     code_by
     (ℕ × (FinMap nat_cmp Getting × (List ℕ × (ℕ × ℕ))))
-    (coded× coded_ℕ (coded× (map.code coded_ℕ getting_code) (coded× (coded_list coded_ℕ) (coded× coded_ℕ coded_ℕ))))
+    (coded× coded_ℕ (coded× (map.code coded_ℕ getting.the_row.coded) (coded× (coded_list coded_ℕ) (coded× coded_ℕ coded_ℕ))))
     (λ s. (s.next, (s.places, (s.waiting, (s.alive, s.peak)))))
     (λ p. record { next = p.0; places = p.1.0; waiting = p.1.1.0; alive = p.1.1.1.0; peak = p.1.1.1.1 })
     (λ _. refl)

@@ -1,4 +1,6 @@
 //! The table of gets.
+#![tactic(auto, using(crate::proofs::GetPlaces::steps))]
+
 ghost use Rattle.std.specs.Prelude.{◌⊎◌, ◌≡◌, ◌+◌, ◌<◌, ◌≤◌, max, min, true, false, IsSome, is_some, ltb, length, slice_get, IfSome, IfNone, OnOk, OnErr, Some, None};
 ghost use Rattle.std.specs.FinMap as map;
 ghost use Rattle.bb8_types.specs.declared.standing.Getting.{Getting};
@@ -46,13 +48,8 @@ pub fn is_unnotified(getting: Option<Getting>) -> bool
     ensures { result ≡ places.gets_stand places.is_unnotified getting }
 {
     match getting {
-        Some(
-            Getting {
-                place: GetPlace::Waiting(notified),
-                ..
-            },
-        ) => !notified,
-        _ => false,
+        None => false,
+        Some(getting) => matches!(getting.place, GetPlace::Waiting(false)),
     }
 }
 
@@ -61,13 +58,8 @@ pub fn is_notified(getting: Option<Getting>) -> bool
     ensures { result ≡ places.gets_stand places.is_notified getting }
 {
     match getting {
-        Some(
-            Getting {
-                place: GetPlace::Waiting(notified),
-                ..
-            },
-        ) => notified,
-        _ => false,
+        None => false,
+        Some(getting) => matches!(getting.place, GetPlace::Waiting(true)),
     }
 }
 
@@ -77,10 +69,7 @@ pub fn is_trying(getting: Option<Getting>) -> bool
 {
     match getting {
         None => false,
-        Some(getting) => match getting.place {
-            GetPlace::Active | GetPlace::Waiting(_) => true,
-            GetPlace::Holding(_) => false,
-        },
+        Some(getting) => !matches!(getting.place, GetPlace::Holding(_)),
     }
 }
 
@@ -88,13 +77,8 @@ pub fn is_trying(getting: Option<Getting>) -> bool
 pub fn held(getting: Option<Getting>) -> Option<u64>
     ensures { result ≡ places.holds getting }
 {
-    match getting {
-        Some(
-            Getting {
-                place: GetPlace::Holding(number),
-                ..
-            },
-        ) => Some(number),
+    match getting?.place {
+        GetPlace::Holding(number) => Some(number),
         _ => None,
     }
 }
@@ -103,10 +87,7 @@ pub fn held(getting: Option<Getting>) -> Option<u64>
 pub fn first_wait(getting: Option<Getting>) -> Option<u64>
     ensures { result ≡ places.first_wait_of getting }
 {
-    match getting {
-        None => None,
-        Some(getting) => getting.first_wait,
-    }
+    getting?.first_wait
 }
 
 impl Gets {
@@ -251,6 +232,7 @@ impl Gets {
     }
 
     /// Returns the next number, for a get that begins and ends at once. Memory must be reserved.
+    #[tactic(auto, using(crate::proofs::GetPlaces::passes))]
     pub fn begin_and_end(&mut self) -> u64
         requires room { self.old.alive < self.old.peak }
         requires number { self.old.next < end_of_numbers }
@@ -285,13 +267,11 @@ impl Gets {
         ensures examined { AddsReads 1 1 accesses.old accesses.new }
         ensures counted { min (accesses.old.reads + 1) end_of_numbers ≤ accesses.new.reads }
     {
-        match self.slots.locate(g.number, g.place, accesses) {
-            None => {}
-            Some(place) => {
-                self.slots.wait(place, now, accesses);
-                self.slots.line_up(place);
-            }
-        }
+        let Some(place) = self.slots.locate(g.number, g.place, accesses) else {
+            return;
+        };
+        self.slots.wait(place, now, accesses);
+        self.slots.line_up(place);
     }
 
     /// Changes the state of a get that is in no queue: it holds a connection now, or is active
@@ -304,12 +284,10 @@ impl Gets {
         ensures examined { AddsReads 1 1 accesses.old accesses.new }
         ensures counted { min (accesses.old.reads + 1) end_of_numbers ≤ accesses.new.reads }
     {
-        match self.slots.locate(g.number, g.place, accesses) {
-            None => {}
-            Some(at) => {
-                let _ = self.slots.turn(at, place, accesses);
-            }
-        }
+        let Some(at) = self.slots.locate(g.number, g.place, accesses) else {
+            return;
+        };
+        let _ = self.slots.turn(at, place, accesses);
     }
 
     /// Notifies the longest waiter that was not notified, and returns it.
@@ -322,14 +300,12 @@ impl Gets {
         ensures counted { min (accesses.old.reads + numbered.one (is_some result)) end_of_numbers
             ≤ accesses.new.reads }
     {
-        match self.slots.first() {
-            None => None,
-            Some(place) => {
-                let number = self.slots.turn(place, GetPlace::Waiting(true), accesses);
-                self.slots.leave(place);
-                Some(GetKey { number, place })
-            }
-        }
+        let Some(place) = self.slots.first() else {
+            return None;
+        };
+        let number = self.slots.turn(place, GetPlace::Waiting(true), accesses);
+        self.slots.leave(place);
+        Some(GetKey { number, place })
     }
 
     /// Makes a get active again that holds a connection, and returns that connection's number.
@@ -370,18 +346,16 @@ impl Gets {
         ensures numbers { self.old.next ≤ end_of_numbers }
         ensures examined { AddsReads 1 1 accesses.old accesses.new }
     {
-        match self.slots.locate(g.number, g.place, accesses) {
-            None => None,
-            Some(place) => {
-                let getting = self.slots.at(place, accesses).standing;
-                if !is_trying(Some(getting)) {
-                    return None;
-                }
-                let _ = self.slots.remove(place);
-                self.alive -= 1;
-                Some(getting)
-            }
+        let Some(place) = self.slots.locate(g.number, g.place, accesses) else {
+            return None;
+        };
+        let getting = self.slots.at(place, accesses).standing;
+        if !is_trying(Some(getting)) {
+            return None;
         }
+        let _ = self.slots.take_out(place);
+        self.alive -= 1;
+        Some(getting)
     }
 
     /// Ends a get that is alive and in no queue.
@@ -394,13 +368,11 @@ impl Gets {
         ensures numbers { self.old.next ≤ end_of_numbers }
         ensures examined { AddsReads 0 1 accesses.old accesses.new }
     {
-        match self.slots.locate(g.number, g.place, accesses) {
-            None => {}
-            Some(place) => {
-                let _ = self.slots.remove(place);
-                self.alive -= 1;
-            }
-        }
+        let Some(place) = self.slots.locate(g.number, g.place, accesses) else {
+            return;
+        };
+        let _ = self.slots.take_out(place);
+        self.alive -= 1;
     }
 
     /// Ends a get that holds a connection. Returns that connection's number and the moment of the
@@ -420,18 +392,16 @@ impl Gets {
         ensures numbers { self.old.next ≤ end_of_numbers }
         ensures examined { AddsReads 1 1 accesses.old accesses.new }
     {
-        match self.slots.locate(g.number, g.place, accesses) {
-            None => None,
-            Some(place) => {
-                let getting = self.slots.at(place, accesses).standing;
-                match getting.place {
-                    GetPlace::Active | GetPlace::Waiting(_) => None,
-                    GetPlace::Holding(held) => {
-                        let _ = self.slots.release(place);
-                        self.alive -= 1;
-                        Some((held, getting.first_wait))
-                    }
-                }
+        let Some(place) = self.slots.locate(g.number, g.place, accesses) else {
+            return None;
+        };
+        let getting = self.slots.at(place, accesses).standing;
+        match getting.place {
+            GetPlace::Active | GetPlace::Waiting(_) => None,
+            GetPlace::Holding(held) => {
+                let _ = self.slots.release(place);
+                self.alive -= 1;
+                Some((held, getting.first_wait))
             }
         }
     }

@@ -1,5 +1,7 @@
 //! A doubly linked list of table indexes. An index is added at the back, and can be removed from
 //! anywhere.
+#![tactic(auto, using(crate::proofs::Linked::reads))]
+
 ghost use Rattle.std.specs.Prelude.{◌≡◌, ℕ, List, ◌+◌, ◌-◌, ◌<◌, ◌≤◌, ◌++◌, ◌∷◌, [], length, slice_get, Some, OnOk, OnErr};
 ghost use Rattle.std.specs.Vec.{vec_len};
 ghost use Rattle.bb8_tables.specs.Ordered.{Ordered, most_places, after_of, before_of, JoinsAt};
@@ -33,11 +35,9 @@ pub struct Line {
 }
 
 impl Model for Line {
-    ghost use Rattle.bb8_tables.specs.Ordered.{Ordered, ordered_code, view_of, IsGood};
+    ghost use Rattle.bb8_tables.specs.Ordered.{Ordered, view_of, IsGood};
 
     ghost Value = { Ordered };
-
-    ghost coded = { ordered_code };
 
     ghost view = { view_of };
 

@@ -1,5 +1,7 @@
 //! The table of connections and approvals.
-ghost use Rattle.std.specs.Prelude.{◌≡◌, ℕ, true, false, cond, ◌<◌, ◌≤◌, ◌+◌, IsSome, is_some, IfSome, IfNone, IfOk, IfErr, OnOk, OnErr, max, min, Some, None, slice_get, slice_set, length, [], ◌∷◌, ◌++◌, ◌||◌, ltb};
+#![tactic(auto, using(crate::proofs::RecordPlaces::steps))]
+
+ghost use Rattle.std.specs.Prelude.{◌≡◌, ℕ, true, false, cond, ◌<◌, ◌≤◌, ◌+◌, IsSome, is_some, IfSome, IfNone, IfOk, IfErr, option_copied, OnOk, OnErr, max, min, Some, None, slice_get, length, [], ◌∷◌, ◌++◌, ◌||◌, ltb};
 ghost use Rattle.std.specs.FinMap as map;
 ghost use Rattle.bb8_types.specs.Places as places;
 ghost use Rattle.bb8_tables.specs.Machine as machine;
@@ -13,7 +15,7 @@ ghost use Rattle.bb8_tables.specs.AccessCount.{AddsReads};
 ghost use Rattle.bb8_tables.specs.Reaps.{after_reaped};
 ghost use Rattle.bb8_tables.specs.Closed.{offered_all, closed_in, closed_of};
 ghost use Rattle.bb8_tables.specs.Holders as holders;
-ghost use Rattle.bb8_tables.specs.TableView.{slot_at};
+ghost use Rattle.bb8_tables.specs.TableView.{slot_at, freed};
 ghost use Rattle.bb8_tables.specs.declared.table.Slot.{Slot};
 
 mod reaps;
@@ -60,28 +62,19 @@ impl<C> Model for Records<C> {
 fn is_claimed<C>(place: &Place<C>) -> bool
     ensures { result ≡ places.is_claimed place.now }
 {
-    match place {
-        Place::Claimed => true,
-        Place::Unclaimed | Place::Idle(_) | Place::Held(_) | Place::Guarded => false,
-    }
+    matches!(place, Place::Claimed)
 }
 
 fn is_idle<C>(place: &Place<C>) -> bool
     ensures { result ≡ places.is_idle place.now }
 {
-    match place {
-        Place::Idle(_) => true,
-        Place::Unclaimed | Place::Claimed | Place::Held(_) | Place::Guarded => false,
-    }
+    matches!(place, Place::Idle(_))
 }
 
 fn is_guarded<C>(place: &Place<C>) -> bool
     ensures { result ≡ places.is_guarded place.now }
 {
-    match place {
-        Place::Guarded => true,
-        Place::Unclaimed | Place::Claimed | Place::Idle(_) | Place::Held(_) => false,
-    }
+    matches!(place, Place::Guarded)
 }
 
 /// Returns whether a connection is checked out by this holder.
@@ -92,7 +85,7 @@ fn is_with<C>(place: &Place<C>, holder: Holder) -> bool
         Holder::Guard => is_guarded(place),
         Holder::Get(get) => match place {
             Place::Held(number) => get == *number,
-            Place::Unclaimed | Place::Claimed | Place::Idle(_) | Place::Guarded => false,
+            _ => false,
         },
     }
 }
@@ -104,7 +97,7 @@ fn connection_of<C: Drop>(place: Place<C>) -> Option<C>
 {
     match place {
         Place::Idle(conn) => Some(conn),
-        Place::Unclaimed | Place::Claimed | Place::Held(_) | Place::Guarded => None,
+        _ => None,
     }
 }
 
@@ -117,12 +110,7 @@ fn close_idle_at<C: Drop>(
     requires { IsSome (slot_at slots.old place) }
     ensures number { (x : Slot (Standing C)) → slot_at slots.old place ≡ Some x
         → result ≡ x.number }
-    ensures state { slots.new ≡ record {
-      slots = slice_set slots.old.slots place None;
-      line = machine.without place slots.old.line;
-      births = machine.without place slots.old.births;
-      free = slots.old.free + 1;
-    } }
+    ensures state { slots.new ≡ freed place slots.old }
     ensures listed { (x : Slot (Standing C)) → slot_at slots.old place ≡ Some x
         → closed.new ≡ offered_all (closed_in x.number (Some x.standing)) closed.old }
 {
@@ -178,6 +166,7 @@ pub fn one(test: bool) -> u64
 impl<C: Drop> Records<C> {
     /// Returns an empty table, which allocates nothing, and the permission to read tables without
     /// counting the access.
+    #[tactic(auto, using(crate::proofs::RecordPlaces::new_good))]
     pub fn new(alloc: Global, first: u64) -> (Self, UncountedAccess)
         ensures { result.0 ≡ no_records first }
     {
@@ -210,13 +199,11 @@ impl<C: Drop> Records<C> {
         ensures counted { min (accesses.old.reads + numbered.one (is_some result)) end_of_numbers
             ≤ accesses.new.reads }
     {
-        match self.unclaimed.pop() {
-            None => None,
-            Some(key) => {
-                let _ = self.slots.put(key.place, Place::Claimed, accesses);
-                Some(key)
-            }
-        }
+        let Some(key) = self.unclaimed.pop() else {
+            return None;
+        };
+        let _ = self.slots.put(key.place, Place::Claimed, accesses);
+        Some(key)
     }
 
     /// Returns when the first idle connection became idle. Reads one entry.
@@ -240,6 +227,7 @@ impl<C: Drop> Records<C> {
     }
 
     /// Checks out the first idle connection to this holder.
+    #[tactic(auto, using(crate::proofs::RecordPlaces::takes))]
     // Inlining saves 42 instructions of a pair.
     #[inline(always)]
     pub fn take(
@@ -260,20 +248,18 @@ impl<C: Drop> Records<C> {
         ensures counted { min (accesses.old.reads + numbered.one (is_some result)) end_of_numbers
             ≤ accesses.new.reads }
     {
-        match self.slots.first_by(strategy) {
-            None => None,
-            Some(place) => {
-                self.slots.leave(place);
-                let out = match holder {
-                    Holder::Guard => Place::Guarded,
-                    Holder::Get(get) => Place::Held(get),
-                };
-                let (number, was) = self.slots.put(place, out, accesses);
-                match was {
-                    Place::Idle(conn) => Some((Key { number, place }, conn)),
-                    _ => None,
-                }
-            }
+        let Some(place) = self.slots.first_by(strategy) else {
+            return None;
+        };
+        self.slots.leave(place);
+        let out = match holder {
+            Holder::Guard => Place::Guarded,
+            Holder::Get(get) => Place::Held(get),
+        };
+        let (number, was) = self.slots.put(place, out, accesses);
+        match was {
+            Place::Idle(conn) => Some((Key { number, place }, conn)),
+            _ => None,
         }
     }
 
@@ -287,15 +273,13 @@ impl<C: Drop> Records<C> {
         ensures examined { AddsReads 1 1 accesses.old accesses.new }
         ensures counted { min (accesses.old.reads + 1) end_of_numbers ≤ accesses.new.reads }
     {
-        match self.slots.locate(k.number, k.place, accesses) {
-            None => k,
-            Some(place) => {
-                let _ = self.slots.put(place, Place::Guarded, accesses);
-                Key {
-                    number: k.number,
-                    place,
-                }
-            }
+        let Some(place) = self.slots.locate(k.number, k.place, accesses) else {
+            return k;
+        };
+        let _ = self.slots.put(place, Place::Guarded, accesses);
+        Key {
+            number: k.number,
+            place,
         }
     }
 
@@ -321,25 +305,23 @@ impl<C: Drop> Records<C> {
         ensures counted { IfOk result (λ u. min (accesses.old.reads + 1) end_of_numbers
             ≤ accesses.new.reads) }
     {
-        match self.slots.locate(k.number, k.place, accesses) {
-            None => Err(conn),
-            Some(place) => {
-                if !is_claimed(&self.slots.at(place, accesses).standing.place) {
-                    return Err(conn);
-                }
-                let idle = Standing {
-                    place: Place::Idle(conn),
-                    birth: now,
-                    entered: now,
-                };
-                let _ = self.slots.replace(place, idle, accesses);
-                self.slots.line_up(place);
-                self.slots.add_birth(place);
-                self.conns += 1;
-                self.approved -= 1;
-                Ok(())
-            }
+        let Some(place) = self.slots.locate(k.number, k.place, accesses) else {
+            return Err(conn);
+        };
+        if !is_claimed(&self.slots.at(place, accesses).standing.place) {
+            return Err(conn);
         }
+        let idle = Standing {
+            place: Place::Idle(conn),
+            birth: now,
+            entered: now,
+        };
+        let _ = self.slots.replace(place, idle, accesses);
+        self.slots.line_up(place);
+        self.slots.add_birth(place);
+        self.conns += 1;
+        self.approved -= 1;
+        Ok(())
     }
 
     /// Makes a checked-out connection idle again; it keeps its birth. Returns it instead, with
@@ -374,28 +356,26 @@ impl<C: Drop> Records<C> {
         ensures numbers { self.old.next ≤ end_of_numbers }
         ensures examined { AddsReads 2 1 accesses.old accesses.new }
     {
-        match self.slots.locate(k.number, k.place, accesses) {
-            None => Err(conn),
-            Some(place) => {
-                let standing = &self.slots.at(place, accesses).standing;
-                if !is_with(&standing.place, holder) {
-                    return Err(conn);
-                }
-                let birth = standing.birth;
-                let older = max_age < now - birth;
-                if is_closing(broken, older, ended) {
-                    return Ok(Err((conn, older)));
-                }
-                let idle = Standing {
-                    place: Place::Idle(conn),
-                    birth,
-                    entered: now,
-                };
-                let _ = self.slots.replace(place, idle, accesses);
-                self.slots.line_up(place);
-                Ok(Ok(()))
-            }
+        let Some(place) = self.slots.locate(k.number, k.place, accesses) else {
+            return Err(conn);
+        };
+        let standing = &self.slots.at(place, accesses).standing;
+        if !is_with(&standing.place, holder) {
+            return Err(conn);
         }
+        let birth = standing.birth;
+        let older = max_age < now - birth;
+        if is_closing(broken, older, ended) {
+            return Ok(Err((conn, older)));
+        }
+        let idle = Standing {
+            place: Place::Idle(conn),
+            birth,
+            entered: now,
+        };
+        let _ = self.slots.replace(place, idle, accesses);
+        self.slots.line_up(place);
+        Ok(Ok(()))
     }
 
     /// Ends a claimed approval. Returns false and changes nothing if the number is not that of one.
@@ -408,17 +388,15 @@ impl<C: Drop> Records<C> {
             (map.get self.old.places k.number) ≡ false) × (self.new ≡ self.old) }
         ensures examined { AddsReads 1 1 accesses.old accesses.new }
     {
-        match self.slots.locate(k.number, k.place, accesses) {
-            None => false,
-            Some(at) => {
-                if !is_claimed(&self.slots.at(at, accesses).standing.place) {
-                    return false;
-                }
-                let _ = self.slots.remove(at);
-                self.approved -= 1;
-                true
-            }
+        let Some(at) = self.slots.locate(k.number, k.place, accesses) else {
+            return false;
+        };
+        if !is_claimed(&self.slots.at(at, accesses).standing.place) {
+            return false;
         }
+        let _ = self.slots.take_out(at);
+        self.approved -= 1;
+        true
     }
 
     /// Ends a checked-out connection.
@@ -429,13 +407,11 @@ impl<C: Drop> Records<C> {
         ensures numbers { self.old.next ≤ end_of_numbers }
         ensures examined { AddsReads 0 1 accesses.old accesses.new }
     {
-        match self.slots.locate(k.number, k.place, accesses) {
-            None => {}
-            Some(place) => {
-                let _ = self.slots.remove(place);
-                self.conns -= 1;
-            }
-        }
+        let Some(place) = self.slots.locate(k.number, k.place, accesses) else {
+            return;
+        };
+        let _ = self.slots.take_out(place);
+        self.conns -= 1;
     }
 
     /// Ends an idle connection, wherever it is in the queue, and returns it. Returns None and
@@ -450,20 +426,18 @@ impl<C: Drop> Records<C> {
         ensures numbers { self.old.next ≤ end_of_numbers }
         ensures examined { AddsReads 1 1 accesses.old accesses.new }
     {
-        match self.slots.locate(k.number, k.place, accesses) {
-            None => None,
-            Some(place) => {
-                if !is_idle(&self.slots.at(place, accesses).standing.place) {
-                    return None;
-                }
-                let Slot {
-                    number: _,
-                    standing,
-                } = self.slots.take_out(place);
-                self.conns -= 1;
-                connection_of(standing.place)
-            }
+        let Some(place) = self.slots.locate(k.number, k.place, accesses) else {
+            return None;
+        };
+        if !is_idle(&self.slots.at(place, accesses).standing.place) {
+            return None;
         }
+        let Slot {
+            number: _,
+            standing,
+        } = self.slots.take_out(place);
+        self.conns -= 1;
+        connection_of(standing.place)
     }
 
     /// Ends the connection that has been idle longest, and offers it to a list.
@@ -475,14 +449,12 @@ impl<C: Drop> Records<C> {
             (closed_in key.number (map.get self.old.places key.number)) closed.old) }
         ensures same { IfNone result (closed.new ≡ closed.old) }
     {
-        match self.slots.first() {
-            None => None,
-            Some(place) => {
-                let number = close_idle_at(&mut self.slots, place, closed);
-                self.conns -= 1;
-                Some(Key { number, place })
-            }
-        }
+        let Some(place) = self.slots.first() else {
+            return None;
+        };
+        let number = close_idle_at(&mut self.slots, place, closed);
+        self.conns -= 1;
+        Some(Key { number, place })
     }
 
     /// Ends the unclaimed approval with the lowest number.
@@ -492,14 +464,12 @@ impl<C: Drop> Records<C> {
         ensures none { IfNone result ((slice_get self.old.unclaimed 0 ≡ None)
             × (self.new ≡ self.old)) }
     {
-        match self.unclaimed.pop() {
-            None => None,
-            Some(key) => {
-                let _ = self.slots.remove(key.place);
-                self.approved -= 1;
-                Some(key)
-            }
-        }
+        let Some(key) = self.unclaimed.pop() else {
+            return None;
+        };
+        let _ = self.slots.take_out(key.place);
+        self.approved -= 1;
+        Some(key)
     }
 
     /// Ends all idle connections, offers them to a list, and returns their count.
@@ -565,6 +535,7 @@ impl<C: Drop> Records<C> {
     }
 
     /// Adds an idle connection with the next number. Memory must be reserved.
+    #[tactic(auto, using(crate::proofs::RecordPlaces::bears))]
     fn bear(&mut self, conn: C, now: u64) -> Key
         requires moments { NoneAfter now self.old }
         requires room { self.old.conns + self.old.approved < self.old.peak }
@@ -621,6 +592,7 @@ impl<C: Drop> Records<C> {
     }
 
     /// Adds one approval. Memory must be reserved.
+    #[tactic(auto, using(crate::proofs::RecordPlaces::approves))]
     fn approve(&mut self, claimed: bool)
         requires room { self.old.conns + self.old.approved < self.old.peak }
         requires number { self.old.next < end_of_numbers }
@@ -715,15 +687,28 @@ impl<C: Drop> Records<C> {
         self.slots.len() as u32
     }
 
+    /// Returns the state of a record, None if it has ended. Reads one entry.
+    #[inline]
+    fn standing(&self, k: Key, accesses: &mut AccessCounter) -> Option<&Standing<C>>
+        ensures value { option_copied result ≡ map.get self.now.places k.number }
+        ensures examined { AddsReads 1 1 accesses.old accesses.new }
+        ensures counted { min (accesses.old.reads + 1) end_of_numbers ≤ accesses.new.reads }
+    {
+        match self.slots.slot(k.number, k.place, accesses) {
+            None => None,
+            Some(slot) => Some(&slot.standing),
+        }
+    }
+
     /// Returns the birth of a record.
     pub fn birth(&self, k: Key, accesses: &mut AccessCounter) -> u64
         ensures value { result ≡ places.birth_in (map.get self.now.places k.number) }
         ensures examined { AddsReads 1 1 accesses.old accesses.new }
         ensures counted { min (accesses.old.reads + 1) end_of_numbers ≤ accesses.new.reads }
     {
-        match self.slots.slot(k.number, k.place, accesses) {
+        match self.standing(k, accesses) {
             None => 0,
-            Some(slot) => slot.standing.birth,
+            Some(standing) => standing.birth,
         }
     }
 
@@ -747,9 +732,9 @@ impl<C: Drop> Records<C> {
         ensures examined { AddsReads 1 1 accesses.old accesses.new }
         ensures counted { min (accesses.old.reads + 1) end_of_numbers ≤ accesses.new.reads }
     {
-        match self.slots.slot(k.number, k.place, accesses) {
+        match self.standing(k, accesses) {
             None => false,
-            Some(slot) => is_claimed(&slot.standing.place),
+            Some(standing) => is_claimed(&standing.place),
         }
     }
 
@@ -760,9 +745,9 @@ impl<C: Drop> Records<C> {
         ensures examined { AddsReads 1 1 accesses.old accesses.new }
         ensures counted { min (accesses.old.reads + 1) end_of_numbers ≤ accesses.new.reads }
     {
-        match self.slots.slot(k.number, k.place, accesses) {
+        match self.standing(k, accesses) {
             None => false,
-            Some(slot) => is_idle(&slot.standing.place),
+            Some(standing) => is_idle(&standing.place),
         }
     }
 
@@ -773,9 +758,9 @@ impl<C: Drop> Records<C> {
         ensures examined { AddsReads 1 1 accesses.old accesses.new }
         ensures counted { min (accesses.old.reads + 1) end_of_numbers ≤ accesses.new.reads }
     {
-        match self.slots.slot(k.number, k.place, accesses) {
+        match self.standing(k, accesses) {
             None => false,
-            Some(slot) => is_guarded(&slot.standing.place),
+            Some(standing) => is_guarded(&standing.place),
         }
     }
 }

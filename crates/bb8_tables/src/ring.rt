@@ -16,11 +16,9 @@ pub struct Ring<T> {
 
 impl<T> Model for Ring<T> {
     ghost use Rattle.std.specs.Prelude.{unwrap_or, []};
-    ghost use Rattle.circular_buffer.specs.Buffer.{Buffer, buffer, buffer_code};
+    ghost use Rattle.circular_buffer.specs.Buffer.{Buffer, buffer};
 
     ghost Value = { Buffer T };
-
-    ghost coded = { buffer_code T.code };
 
     ghost view = { λ a. unwrap_or a.made (buffer [] 0) };
 }
@@ -61,23 +59,15 @@ impl<T: Drop> Ring<T> {
         requires { length self.old.items < self.old.capacity }
         ensures { self.new ≡ buffer (self.old.items ++ item ∷ []) self.old.capacity }
     {
-        match &mut self.made {
-            Some(ring) => {
-                let _ = ring.try_push_back(item);
-            }
-            None => {}
-        }
+        self.offer(item);
     }
 
     /// Adds an item at the back if there is capacity for it; otherwise drops it.
     pub fn offer(&mut self, item: T)
         ensures { self.new ≡ offered item self.old }
     {
-        match &mut self.made {
-            Some(ring) => {
-                let _ = ring.try_push_back(item);
-            }
-            None => {}
+        if let Some(ring) = &mut self.made {
+            let _ = ring.try_push_back(item);
         }
     }
 

@@ -1,12 +1,12 @@
 //! A table of numbered entries, with a queue of some of them.
-ghost use Rattle.std.specs.Prelude.{◌≡◌, ◌≢◌, ℕ, List, ◌+◌, ◌-◌, ◌<◌, ◌≤◌, min, IsSome, IfSome, IfNone, OnOk, OnErr, Some, None, option_copied, [], slice_get, slice_set, length, ◌++◌, ◌∷◌, false};
+ghost use Rattle.std.specs.Prelude.{◌≡◌, ◌≢◌, ℕ, List, ◌+◌, ◌<◌, ◌≤◌, min, IsSome, IfSome, IfNone, OnOk, OnErr, Some, None, option_copied, [], slice_get, length, ◌++◌, ◌∷◌, false};
 ghost use Rattle.bb8_tables.specs.declared.table.Slot.{Slot};
 ghost use Rattle.bb8_types.specs.declared.standing.Standing.{Standing};
 ghost use Rattle.bb8_types.specs.declared.standing.Getting.{Getting};
 ghost use Rattle.bb8_types.specs.Bounds.{end_of_numbers};
-ghost use Rattle.bb8_types.specs.Places.{get_in_wait, first_place};
+ghost use Rattle.bb8_types.specs.Places.{get_in_wait, get_with_place, with_place, first_place};
 ghost use Rattle.bb8_tables.specs.Machine.{without};
-ghost use Rattle.bb8_tables.specs.TableView.{slot_at};
+ghost use Rattle.bb8_tables.specs.TableView.{slot_at, filled, freed, Restands};
 ghost use Rattle.bb8_tables.specs.Spelled.{Absent};
 ghost use Rattle.bb8_tables.specs.AccessCount.{counts_read, counts_search, AddsReads};
 
@@ -70,7 +70,7 @@ pub struct Table<S> {
 }
 
 impl<S> Model for Table<S> {
-    ghost use Rattle.bb8_tables.specs.TableView.{TableView, table_view_code};
+    ghost use Rattle.bb8_tables.specs.TableView.{TableView};
     ghost use Rattle.bb8_tables.specs.declared.table.Slot.{Slot};
 
     ghost Value = { TableView (Slot S) };
@@ -104,10 +104,7 @@ impl<S: Drop> Table<S> {
         requires number { slot.number < end_of_numbers }
         ensures vacant { slot_at self.old result ≡ None }
         ensures within { result < length self.old.slots }
-        ensures state { self.new ≡ record self.old {
-          slots = slice_set self.old.slots result (Some slot);
-          free = self.old.free - 1;
-        } }
+        ensures state { self.new ≡ filled result slot self.old }
         ensures room { self.new.free + 1 ≡ self.old.free }
     {
         match self.free.pop() {
@@ -128,15 +125,13 @@ impl<S: Drop> Table<S> {
         ensures none { IfNone (option_copied result)
             ((x : Slot S) → slot_at self.now at ≡ Some x → x.number ≢ number) }
     {
-        match self.slots.get(at) {
-            None => None,
-            Some(slot) => {
-                if slot.number == number && number != END_OF_NUMBERS {
-                    Some(slot)
-                } else {
-                    None
-                }
-            }
+        let Some(slot) = self.slots.get(at) else {
+            return None;
+        };
+        if slot.number == number && number != END_OF_NUMBERS {
+            Some(slot)
+        } else {
+            None
         }
     }
 
@@ -329,11 +324,7 @@ impl<S: Drop> Table<S> {
     pub fn replace(&mut self, place: usize, standing: S, accesses: &mut AccessCounter) -> S
         requires stands { IsSome (slot_at self.old place) }
         ensures value { (x : Slot S) → slot_at self.old place ≡ Some x → result ≡ x.standing }
-        ensures changed { (x : Slot S) → slot_at self.old place ≡ Some x
-            → self.new ≡ record self.old {
-              slots =
-                  slice_set self.old.slots place (Some (record x { standing = standing }));
-            } }
+        ensures changed { Restands self.old self.new place (λ _. standing) }
         ensures examined { accesses.new ≡ counts_read accesses.old }
     {
         accesses.count_read();
@@ -346,12 +337,7 @@ impl<S: Drop + Vacant> Table<S> {
     pub fn take_out(&mut self, place: usize) -> Slot<S>
         requires { IsSome (slot_at self.old place) }
         ensures value { (x : Slot S) → slot_at self.old place ≡ Some x → result ≡ x }
-        ensures state { self.new ≡ record {
-          slots = slice_set self.old.slots place None;
-          line = without place self.old.line;
-          births = without place self.old.births;
-          free = self.old.free + 1;
-        } }
+        ensures state { self.new ≡ freed place self.old }
     {
         self.step_out(place);
         self.release(place)
@@ -364,12 +350,7 @@ impl<S: Drop + Vacant> Table<S> {
         requires stands { IsSome (slot_at self.old place) }
         requires absent { Absent place self.old.line }
         ensures value { (x : Slot S) → slot_at self.old place ≡ Some x → result ≡ x }
-        ensures state { self.new ≡ record {
-          slots = slice_set self.old.slots place None;
-          line = self.old.line;
-          births = without place self.old.births;
-          free = self.old.free + 1;
-        } }
+        ensures state { self.new ≡ freed place self.old }
     {
         self.births.unlink(place);
         self.free.push_reserved(place as u32);
@@ -378,22 +359,6 @@ impl<S: Drop + Vacant> Table<S> {
             standing: S::vacant(),
         };
         mem::replace(&mut self.slots[place], vacant)
-    }
-
-    /// Frees an entry and returns its number.
-    // Inlining saves 17 instructions of a cancelled get.
-    #[inline(always)]
-    pub fn remove(&mut self, place: usize) -> u64
-        requires { IsSome (slot_at self.old place) }
-        ensures number { (x : Slot S) → slot_at self.old place ≡ Some x → result ≡ x.number }
-        ensures state { self.new ≡ record {
-          slots = slice_set self.old.slots place None;
-          line = without place self.old.line;
-          births = without place self.old.births;
-          free = self.old.free + 1;
-        } }
-    {
-        self.take_out(place).number
     }
 
     /// Allocates for this many more entries.
@@ -488,11 +453,7 @@ impl<C: Drop> Table<Standing<C>> {
             → result.0 ≡ x.number }
         ensures value { (x : Slot (Standing C)) → slot_at self.old at ≡ Some x
             → result.1 ≡ x.standing.place }
-        ensures changed { (x : Slot (Standing C)) → slot_at self.old at ≡ Some x
-            → self.new ≡ record self.old {
-              slots = slice_set self.old.slots at
-                  (Some (record x { standing = record x.standing { place = place } }));
-            } }
+        ensures changed { Restands self.old self.new at (with_place place) }
         ensures examined { accesses.new ≡ counts_read accesses.old }
     {
         accesses.count_read();
@@ -507,11 +468,7 @@ impl Table<Getting> {
     pub fn turn(&mut self, at: usize, place: GetPlace, accesses: &mut AccessCounter) -> u64
         requires stands { IsSome (slot_at self.old at) }
         ensures number { (x : Slot Getting) → slot_at self.old at ≡ Some x → result ≡ x.number }
-        ensures changed { (x : Slot Getting) → slot_at self.old at ≡ Some x
-            → self.new ≡ record self.old {
-              slots = slice_set self.old.slots at
-                  (Some (record x { standing = record x.standing { place = place } }));
-            } }
+        ensures changed { Restands self.old self.new at (get_with_place place) }
         ensures examined { accesses.new ≡ counts_read accesses.old }
     {
         accesses.count_read();
@@ -524,11 +481,7 @@ impl Table<Getting> {
     #[inline]
     pub fn wait(&mut self, at: usize, now: u64, accesses: &mut AccessCounter)
         requires stands { IsSome (slot_at self.old at) }
-        ensures changed { (x : Slot Getting) → slot_at self.old at ≡ Some x
-            → self.new ≡ record self.old {
-              slots = slice_set self.old.slots at
-                  (Some (record x { standing = get_in_wait now x.standing }));
-            } }
+        ensures changed { Restands self.old self.new at (get_in_wait now) }
         ensures examined { accesses.new ≡ counts_read accesses.old }
     {
         accesses.count_read();

@@ -1,7 +1,7 @@
 -- A task that does not go on has ended.
 use Rattle.std.proofs.lemmas.Bool.Decides.{nat_tests}
 use Rattle.std.proofs.Common.{arith}
-use Rattle.bb8_tasks.proofs.Words.{◌≡◌, ℕ, Bool, Option, Result, sym, subst, Poll, Moment, Key, OpenedAnswer, ReplenishStep, Replenish, ReplenishAnswer, Pending, Retrying, Failed, GivenBack, ReplenishStage, Done, Tries, TaskFails, AfterOpened, AfterTaskAcquire, AfterTaskConnect, TaskBegins, Wakes, TaskAdvances, TaskProceeds, TaskPolls}
+use Rattle.bb8_tasks.proofs.Words.{◌≡◌, ℕ, Bool, Option, Result, sym, subst, Poll, Moment, Key, ReplenishStep, Replenish, ReplenishAnswer, Pending, Retrying, GivenBack, ReplenishStage, Done, Tries, AfterTaskAcquire, AfterTaskConnect, TaskBegins, Wakes, TaskAdvances, TaskProceeds, TaskPolls}
 use Rattle.bb8_tasks.specs.declared.home.Home.{Ghosts as HomeOf}
 use Rattle.bb8_tasks.specs.declared.opener.Opener.{Ghosts as OpenerOf}
 
@@ -17,12 +17,6 @@ module _ {C V A E : Type 0} where
   left a next is ends = subst (λ (x : ReplenishAnswer E). Ends x next.stage) (sym is) ends
 
 module _ {C E V A X : Type 0} (home : HomeOf X C) (timeout : ℕ) (retry : Bool) (approval : Key) (m : Moment) (opener : OpenerOf X C E V A) where
-  fails : (tries : Tries) (e : E) (x x' : X) (next : ReplenishStep C V A E) → TaskFails home timeout retry approval m tries e x next x' → Ends next.answer next.stage
-  fails tries e x x' next f = grind (arith, nat_tests, left (Failed e) next, left (Retrying e) next)
-
-  opens : (step : Result (OpenedAnswer C) C) (x x' : X) (next : ReplenishStep C V A E) → AfterOpened home timeout retry approval m opener step x next x' → Ends next.answer next.stage
-  opens step x x' next a = grind (arith, nat_tests)
-
   prepares : (answer : Poll (Result (Unit {0}) E)) (tries : Tries) (c : C) (acquiring : A) (x x' : X) (next : ReplenishStep C V A E)
       → AfterTaskAcquire home timeout retry approval m opener answer tries c acquiring x next x' → Ends next.answer next.stage
   prepares answer tries c acquiring x x' next a = grind (arith, nat_tests)

@@ -1,7 +1,6 @@
 -- One poll of a replay in plain words: where it leaves the task, and how many attempts it begins.
 use Rattle.std.proofs.lemmas.Bool.Decides.{nat_tests}
-use Rattle.bb8_tasks.proofs.Words.{◌≡◌, ℕ, ◌-◌, ◌<◌, ◌≤◌, max, Bool, true, false, Option, Some, None, Result, Ok, ◌⊎◌, arith, Poll, Moment, Key, wait, Reply, ReplenishStep, ReplenishAnswer, ReplenishStage, Start, Connecting, Acquiring, Sleeping, Done, Tries, outcome, scripted, steady, Task, Polled, IsDue, failed_once_more, AfterTaskAcquire, AfterTaskConnect, Enters, TaskConnects, TaskBegins, TaskProceeds}
-use Rattle.futures.specs.declared.task.Poll.TheVariants.{Ready}
+use Rattle.bb8_tasks.proofs.Words.{◌≡◌, ℕ, ◌-◌, ◌<◌, ◌≤◌, max, Bool, true, false, Option, Some, None, Ok, ◌⊎◌, arith, Moment, Key, wait, Reply, ReplenishAnswer, ReplenishStage, Start, Connecting, Acquiring, Sleeping, Done, Tries, scripted, steady, Task, Polled, IsDue, failed_once_more, TaskProceeds}
 use Rattle.bb8_core.specs.declared.answers.Looked.{Looked}
 use Rattle.bb8_tasks.specs.declared.backoff.Reply.TheVariants as replies
 use Rattle.bb8_tasks.specs.declared.backoff.Scripted.{Scripted}
@@ -9,9 +8,6 @@ use Rattle.bb8_tasks.specs.declared.backoff.Scripted.{Scripted}
 -- the state of such a task
 abbrev pub Standing : Type 0
 Standing = ReplenishStage (Unit {0}) (Unit {0}) (Unit {0})
-
-abbrev Step : Type 0
-Step = ReplenishStep (Unit {0}) (Unit {0}) (Unit {0}) (Unit {0})
 
 module _ (timeout : ℕ) (retry : Bool) (m : Moment) where
   -- where a reply leaves a task that has these tries behind it
@@ -31,38 +27,6 @@ module _ (timeout : ℕ) (retry : Bool) (m : Moment) where
   Moves reply (Sleeping tries None) tried s = (tried ≡ 0) × (s ≡ Sleeping tries None)
   Moves reply (Sleeping tries (Some due)) tried s = (due.0 ≤ m.0 → (tried ≡ 1) × Leads reply tries s) × (m.0 < due.0 → (tried ≡ 0) × (s ≡ Sleeping tries (Some due)))
   Moves reply Done tried s = (tried ≡ 0) × (s ≡ Done)
-
-  module _ (approval : Key) where
-    -- what is opened is entered
-    entered : (x x' : Scripted) (next : Step) → Enters steady timeout retry approval m scripted tt x next x' → (next.stage ≡ Done) × (x' ≡ x)
-    entered x x' next (step, x1, (is, same), r) = grind (arith, nat_tests)
-
-    -- a poll of the preparation, which is ready
-    prepared : (answer : Poll (Result (Unit {0}) (Unit {0}))) (tries : Tries) (x x' : Scripted) (next : Step) → answer ≡ Ready (Ok tt)
-        → AfterTaskAcquire steady timeout retry approval m scripted answer tries tt tt x next x' → (next.stage ≡ Done) × (x' ≡ x)
-    prepared answer tries x x' next is r = grind (arith, nat_tests)
-
-    -- a poll of the attempt leads where its reply says
-    leads : (reply : Reply) (tries : Tries) (x x' : Scripted) (next : Step)
-        → AfterTaskConnect steady timeout retry approval m scripted (outcome reply) tries tt x next x' → Leads reply tries next.stage × (x' ≡ x)
-    leads replies.Pending tries x x' next r = (r.1, r.2)
-    leads replies.Ok tries x x' next (x1, ended, (acquiring, c, x2, begun_so, (answer, c1, acquiring1, x3, (is, same), r))) = grind (arith, nat_tests)
-    leads replies.Err tries x x' next (x1, ended, r) = grind (arith, nat_tests)
-
-    -- a poll of an attempt in progress
-    connects : (reply : Reply) (tries : Tries) (connecting : Unit {0}) (x x' : Scripted) (next : Step) → x.reply ≡ reply
-        → TaskConnects steady timeout retry approval m scripted tries connecting x next x' → Leads reply tries next.stage × (x' ≡ x)
-    connects reply tries connecting x x' next is (answer, connecting1, x1, (said, same), r) = grind (arith, nat_tests)
-
-    -- a poll that begins an attempt
-    begins : (reply : Reply) (tries : Tries) (x x' : Scripted) (next : Step) → x ≡ record { reply = reply; tries = 0 }
-        → TaskBegins steady timeout retry approval m scripted tries x next x' → (x'.tries ≡ 1) × Leads reply tries next.stage
-    begins reply tries x x' next is (connecting, x1, begun_so, r) = grind (arith, nat_tests)
-
-    -- after the look, a poll of a task that has not ended
-    turns : (reply : Reply) (stage : Standing) (x x' : Scripted) (next : Step) → x ≡ record { reply = reply; tries = 0 }
-        → TaskProceeds steady timeout retry approval m scripted true stage x next x' → Moves reply stage x'.tries next.stage
-    turns reply stage x x' next is r = grind (arith, nat_tests)
 
 -- the moment of a poll: the greater of the clock's and the one of the poll before, but none is
 -- taken once the task has ended

@@ -59,12 +59,7 @@ module _ {T E X : Type 0} (polls : T → X → ReplenishAnswer E → T → X →
   Midway-first first start k is = ([], first, [], omega (arith, is), sym (append-nil first), refl, (refl, refl))
 
 module _ {T E X : Type 0} (polls : T → X → ReplenishAnswer E → T → X → Type 0) (sinks : X → E → X → Type 0) where
-  -- a round that goes on after each failure stops at none
-  pub never-stops : (ts : List T) (x : X) (o : Option E) (left : List T) (x' : X) → PollsUntil polls GoOn sinks ts x o left x' → o ≡ None
-  never-stops ts x None left x' p = refl
-  never-stops ts x (Some e) left x' (before, again, x1, each, (t, t', after, p, stop, all, is)) = absurd cc
-
-  -- it polls each task once
+  -- a round that goes on after each failure polls each task once
   pub polls_each : (ts : List T) (x : X) (left : List T) (x' : X) → PollsEach (GoesOn polls GoOn) sinks ts x left x' → PollsEach polls sinks ts x left x'
   polls_each [] x left x' p = p
   polls_each (t ∷ ts) x left x' (r, t', x1, p, (x2, outcome, (more, each, is))) = (r, t', x1, p.0, (x2, outcome, (more, polls_each ts x2 more x' each, is)))

@@ -139,23 +139,20 @@ module _ {R : Type 0} where
   pub in_order-change_off : (stands : ℕ → R → Bool) (rs : List R) (n k : ℕ) (new : R) → ((p : ℕ) → stands p new ≡ false) → (m : ℕ)
       → in_order stands n (change n k new rs) m ≡ filter (λ q. not (eqb q k)) (in_order stands n rs m)
   in_order-change_off stands rs n k new off zero = refl
-  in_order-change_off stands rs n k new off (suc m) =
-      let ih : in_order stands n (change n k new rs) m ≡ filter (λ q. not (eqb q k)) (in_order stands n rs m) = in_order-change_off stands rs n k new off m in
-      let here : numbers (stands m) n (change n k new rs) ≡ filter (λ q. not (eqb q k)) (numbers (stands m) n rs) = numbers-change_off (stands m) rs n k new (off m) in
-      rw (ih, here) (sym (filter-append (λ q. not (eqb q k)) (in_order stands n rs m) (numbers (stands m) n rs)))
+  in_order-change_off stands rs n k new off (suc m) = grind (arith, nat_tests, in_order-change_off stands rs n k new off m, numbers-change_off, filter-append)
 
   pub in_order-change_kept : (stands : ℕ → R → Bool) (rs : List R) (n k : ℕ) (new old : R) → at n rs k ≡ Some old → (m : ℕ)
       → ((p : ℕ) → p < m → stands p new ≡ stands p old) → in_order stands n (change n k new rs) m ≡ in_order stands n rs m
   in_order-change_kept stands rs n k new old h zero same = refl
   in_order-change_kept stands rs n k new old h (suc m) same = grind (arith, nat_tests, in_order-change_kept stands rs n k new old h m, numbers-change_kept (stands m) rs n k new old h)
 
+  -- a new element that is at no position below m
+  in_order-append_under : (stands : ℕ → R → Bool) (rs : List R) (n : ℕ) (new : R) (m : ℕ) → ((p : ℕ) → p < m → stands p new ≡ false) → in_order stands n (rs ++ new ∷ []) m ≡ in_order stands n rs m
+  in_order-append_under stands rs n new zero off = refl
+  in_order-append_under stands rs n new (suc m) off = grind (arith, nat_tests, in_order-append_under stands rs n new m, numbers-append, append-nil)
+
   pub in_order-append : (stands : ℕ → R → Bool) (rs : List R) (n : ℕ) (new : R) → ((p : ℕ) → stands p new ≡ false) → (m : ℕ) → in_order stands n (rs ++ new ∷ []) m ≡ in_order stands n rs m
-  in_order-append stands rs n new off zero = refl
-  in_order-append stands rs n new off (suc m) =
-      let ih : in_order stands n (rs ++ new ∷ []) m ≡ in_order stands n rs m = in_order-append stands rs n new off m in
-      let here : numbers (stands m) n (rs ++ new ∷ []) ≡ numbers (stands m) n rs = numbers-append (stands m) rs new n
-      ∙ ap (λ (b : Bool). numbers (stands m) n rs ++ cond b ((n + length rs) ∷ []) []) (off m) ∙ append-nil (numbers (stands m) n rs) in
-      rw (ih, here) refl
+  in_order-append stands rs n new off m = in_order-append_under stands rs n new m (λ p below. off p)
 
   pub before_later : (stands : ℕ → R → Bool) (rs : List R) (m : ℕ) → Before stands m rs → Before stands (suc m) rs
   before_later stands [] m b = tt
@@ -199,26 +196,11 @@ module _ {R : Type 0} where
   pub in_order-append_new : (stands : ℕ → R → Bool) (rs : List R) (n m : ℕ) (new : R) → Before stands m rs → stands m new ≡ true
       → ((p : ℕ) → p < m → stands p new ≡ false) → in_order stands n (rs ++ new ∷ []) (suc m) ≡ in_order stands n rs m
       ++ (n + length rs) ∷ []
-  in_order-append_new stands rs n m new b on off =
-      let here : numbers (stands m) n (rs ++ new ∷ []) ≡ (n + length rs) ∷ [] = numbers-append (stands m) rs new n
-      ∙ ap (λ (xs : List ℕ). xs ++ cond (stands m new) ((n + length rs) ∷ []) []) (none_at stands rs n m b)
-      ∙ ap (λ (t : Bool). cond t ((n + length rs) ∷ []) []) on in
-      let front : in_order stands n (rs ++ new ∷ []) m ≡ in_order stands n rs m = earlier m off in
-      rw (here, front) refl
-    where
-      earlier : (q : ℕ) → ((p : ℕ) → p < q → stands p new ≡ false) → in_order stands n (rs ++ new ∷ []) q ≡ in_order stands n rs q
-      earlier zero none = refl
-      earlier (suc q) none =
-          let ih : in_order stands n (rs ++ new ∷ []) q ≡ in_order stands n rs q = earlier q (λ p l. none p (omega arith)) in
-          let last : numbers (stands q) n (rs ++ new ∷ []) ≡ numbers (stands q) n rs = numbers-append (stands q) rs new n
-          ∙ ap (λ (t : Bool). numbers (stands q) n rs ++ cond t ((n + length rs) ∷ []) []) (none q (omega arith))
-          ∙ append-nil (numbers (stands q) n rs) in
-          rw (ih, last) refl
+  in_order-append_new stands rs n m new b on off = grind (arith, nat_tests, in_order-append_under, numbers-append, none_at)
 
   pub in_order_member : (stands : ℕ → R → Bool) (rs : List R) (n m j k : ℕ) → slice_get (in_order stands n rs m) j ≡ Some k → (r : R) × (at n rs k ≡ Some r) × (p : ℕ) × (p < m) × (stands p r ≡ true)
   in_order_member stands rs n zero j k h = cc
-  in_order_member stands rs n (suc m) j k h =
-      grind (arith, nat_tests, in_order_member stands rs n m j k, numbers_member (stands m) rs n, get_joined (in_order stands n rs m) (numbers (stands m) n rs) j k)
+  in_order_member stands rs n (suc m) j k h = grind (arith, nat_tests, in_order_member stands rs n m j k, numbers_member, get_joined)
 
   -- the first number is nowhere any more
   pub in_order-change_head : (stands : ℕ → R → Bool) → Stands stands → (rs : List R) (n k : ℕ) (rest : List ℕ) (new : R)
@@ -287,8 +269,7 @@ module _ {S : Type 0} where
 
   -- a key that is inserted twice has its later value
   pub inserted_again : (m : FinMap nat_cmp S) (k : ℕ) (f : Option S → S) (s : S) → insert m k (f (Some s)) ≡ insert (insert m k s) k (f (get (insert m k s) k))
-  inserted_again m k f s =
-      grind (arith, nat_tests, same_gets, get_inserted m k (f (Some s)), get_inserted (insert m k s) k (f (get (insert m k s) k)), get_inserted m k s, get_inserted m k s k, eqb_self k)
+  inserted_again m k f s = grind (arith, nat_tests, same_gets, get_inserted, eqb_self)
 
   -- a new key that is taken out again leaves nothing behind
   pub removed_inserted : (m : FinMap nat_cmp S) (k : ℕ) (s : S) → get m k ≡ None → remove (insert m k s) k ≡ m
@@ -297,48 +278,14 @@ module _ {S : Type 0} where
 module _ {R S : Type 0} where
   pub get-numbered : (f : R → Option S) (rs : List R) (n q : ℕ) → get (by_number f n rs) q ≡ option_and_then f (at n rs q)
   get-numbered f [] n q = get-empty nat_cmp q
-  get-numbered f (r ∷ rs) n q =
-      ⊎_elim
-      (λ (t : (eqb q n ≡ true) × (q ≡ n)).
-      let past : at (suc n) rs q ≡ None = at-below rs (suc n) q (omega arith) in
-      let goal : (o : Option S) → get (with_value n o (by_number f (suc n) rs)) q ≡ o =
-      elim [
-        | None ↦ get-numbered f rs (suc n) q ∙ ap (option_and_then f) past
-        | Some s ↦ get_inserted (by_number f (suc n) rs) n s q
-            ∙ ap (λ (b : Bool). cond b (Some s) (get (by_number f (suc n) rs) q)) t.0
-      ] in
-      goal (f r) ∙ sym (ap (λ (b : Bool). option_and_then f (cond b (Some r) (at (suc n) rs q))) t.0))
-      (λ (t : (eqb q n ≡ false) × (q ≢ n)).
-      let ih : get (by_number f (suc n) rs) q ≡ option_and_then f (at (suc n) rs q) = get-numbered f rs (suc n) q in
-      let goal : (o : Option S) → get (with_value n o (by_number f (suc n) rs)) q ≡ option_and_then f (at (suc n) rs q) =
-      elim [ None ↦ ih | Some s ↦ get_inserted (by_number f (suc n) rs) n s q ∙ ap (λ (b : Bool). cond b (Some s) (get (by_number f (suc n) rs) q)) t.0 ∙ ih ] in
-      goal (f r) ∙ sym (ap (λ (b : Bool). option_and_then f (cond b (Some r) (at (suc n) rs q))) t.0))
-      (same_or_not q n)
+  get-numbered f (r ∷ rs) n q = grind (arith, nat_tests, at-below, get-numbered f rs (suc n) q, get_inserted, same_or_not)
 
   pub numbered-change_some : (f : R → Option S) (rs : List R) (n k : ℕ) (new old : R) (s : S) → at n rs k ≡ Some old → f new ≡ Some s
       → by_number f n (change n k new rs) ≡ insert (by_number f n rs) k s
-  numbered-change_some f rs n k new old s h e = same_gets _ _ (λ q.
-      get-numbered f (change n k new rs) n q
-      ∙ ⊎_elim
-      (λ (t : (eqb q k ≡ true) × (q ≡ k)).
-      let here : at n (change n k new rs) q ≡ Some new = rw t.1 (at-change_same rs n k new old h) in
-      ap (option_and_then f) here ∙ e ∙ sym (get_inserted (by_number f n rs) k s q ∙ ap (λ (b : Bool). cond b (Some s) (get (by_number f n rs) q)) t.0))
-      (λ (t : (eqb q k ≡ false) × (q ≢ k)).
-      ap (option_and_then f) (at-change_other rs n k q new t.1) ∙ sym (get-numbered f rs n q)
-      ∙ sym (get_inserted (by_number f n rs) k s q ∙ ap (λ (b : Bool). cond b (Some s) (get (by_number f n rs) q)) t.0))
-      (same_or_not q k))
+  numbered-change_some f rs n k new old s h e = grind (arith, nat_tests, same_gets, get-numbered, at-change_same rs n k new old, get_inserted, at-change_other, get-numbered f rs n, same_or_not)
 
   pub numbered-change_none : (f : R → Option S) (rs : List R) (n k : ℕ) (new old : R) → at n rs k ≡ Some old → f new ≡ None → by_number f n (change n k new rs) ≡ remove (by_number f n rs) k
-  numbered-change_none f rs n k new old h e = same_gets _ _ (λ q.
-      get-numbered f (change n k new rs) n q
-      ∙ ⊎_elim
-      (λ (t : (eqb q k ≡ true) × (q ≡ k)).
-      let here : at n (change n k new rs) q ≡ Some new = rw t.1 (at-change_same rs n k new old h) in
-      ap (option_and_then f) here ∙ e ∙ sym (get_removed (by_number f n rs) k q ∙ ap (λ (b : Bool). cond b None (get (by_number f n rs) q)) t.0))
-      (λ (t : (eqb q k ≡ false) × (q ≢ k)).
-      ap (option_and_then f) (at-change_other rs n k q new t.1) ∙ sym (get-numbered f rs n q)
-      ∙ sym (get_removed (by_number f n rs) k q ∙ ap (λ (b : Bool). cond b None (get (by_number f n rs) q)) t.0))
-      (same_or_not q k))
+  numbered-change_none f rs n k new old h e = grind (arith, nat_tests, same_gets, get-numbered, at-change_same rs n k new old, get_removed, at-change_other, get-numbered f rs n, same_or_not)
 
   pub numbered-append_some : (f : R → Option S) (rs : List R) (n : ℕ) (new : R) (s : S) → f new ≡ Some s → by_number f n (rs ++ new ∷ []) ≡ insert (by_number f n rs) (n + length rs) s
   numbered-append_some f rs n new s e = grind (arith, nat_tests, same_gets, get-numbered f, at-append rs new n, get_inserted (by_number f n rs) (n + length rs) s, get-numbered f rs n)

@@ -26,8 +26,7 @@ module _ {C : Type 0} where
   idle_is p h = grind (arith, nat_tests)
 
   pub guarded_is : (p : Place C) → is_guarded p ≡ true → p ≡ Guarded
-  guarded_is Guarded h = refl
-  guarded_is _ h = cc
+  guarded_is v0 h = grind (arith, nat_tests)
 
   -- what a guard holds is out
   pub guarded_out : (p : Place C) → is_guarded p ≡ true → is_out p ≡ true
@@ -35,14 +34,11 @@ module _ {C : Type 0} where
 
   -- a connection that is out, by its tests
   out_tests : (p : Place C) → is_out p ≡ true → (is_idle p ≡ false) × (is_unclaimed p ≡ false) × (is_conn p ≡ true)
-  out_tests (Held g) h = (refl, refl, refl)
-  out_tests Guarded h = (refl, refl, refl)
-  out_tests _ h = cc
+  out_tests v0 h = grind (arith, nat_tests)
 
   -- a connection that somebody holds is out
   pub held_conn : (p : Place C) (h : Holder) → p ≡ place_with h → is_conn p ≡ true
-  held_conn p Guard is = ap is_conn is
-  held_conn p (Get g) is = ap is_conn is
+  held_conn p v1 is = grind (arith, nat_tests)
 
   -- a record that enters or ends, by its tests
   pub idle_from : (opening : Bool) (p : Place C) → comes_from opening p ≡ true → is_idle p ≡ false

@@ -1,7 +1,7 @@
 //! One connection attempt, for a claimed approval.
 
 use crate::boxed::Reserved;
-use crate::core::{fit, Key, Moment, OpenedAnswer};
+use crate::core::{fit, ClaimAnswer, Key, Moment, OpenedAnswer};
 use crate::events::{report, RETIRED};
 use crate::managers::ManageConnection;
 use crate::pool::{Locked, Shared};
@@ -19,7 +19,7 @@ use tokio::time::{sleep, Instant, Sleep};
 
 /// A claimed approval, and the memory for its connection.
 pub(crate) struct Claimed<C> {
-    pub(crate) approval: Key,
+    approval: Key,
     reserved: Reserved<C>,
 }
 
@@ -56,43 +56,20 @@ fn timer(span: Duration) -> Option<Sleep> {
 }
 
 impl<M: ManageConnection> Attempt<M> {
-    pub(crate) fn new(
-        shared: &Arc<Shared<M>>,
-        claimed: Claimed<M::Connection>,
-        wait: Duration,
-    ) -> Self {
+    fn new(shared: &Arc<Shared<M>>, claimed: Claimed<M::Connection>) -> Self {
         Attempt {
             shared: shared.clone(),
             claimed: Some(claimed),
-            wait,
+            wait: Duration::ZERO,
             calls: Calls::Nothing,
         }
     }
 
-    /// The approval for which it opens a connection.
-    pub(crate) fn approval(&self) -> Option<Key> {
-        Some(self.claimed.as_ref()?.approval)
-    }
-
-    /// Takes over an attempt that was cut off, or claims an approval. Returns `None` if there is
-    /// none, or if memory for the connection is refused: then the approval is left to be claimed
-    /// later.
+    /// Returns an attempt for the next approval, if there is one: see [`Locked::claim`].
     pub(crate) fn claim(shared: &Arc<Shared<M>>) -> Option<Self> {
-        let max_size = shared.settings.config.max_size;
-        let cut_off = shared.lock().take_over(max_size);
-        let claimed = match cut_off {
-            Some(claimed) => claimed,
-            None => {
-                let Some(reserved) = Reserved::new() else {
-                    shared.lock().unopened = true;
-                    return None;
-                };
-                let at = shared.now();
-                let approval = shared.lock().claim(at, max_size)?;
-                Claimed { approval, reserved }
-            }
-        };
-        Some(Attempt::new(shared, claimed, Duration::ZERO))
+        let (at, reserved) = (shared.now(), Reserved::new());
+        let claimed = shared.lock().claim(at, reserved)?;
+        Some(Attempt::new(shared, claimed))
     }
 
     /// Opens the connection. After an error it tries again as long as there is time, and then as
@@ -109,12 +86,9 @@ impl<M: ManageConnection> Attempt<M> {
                     None => drop(spawn_blocking(move || thread::sleep(wait)).await),
                 }
             }
-            let error = match self.connect(is_limited).await {
-                Ok(conn) => {
-                    self.enter(conn);
-                    return Ok(());
-                }
-                Err(error) => error,
+            let connected = self.connect(is_limited).await;
+            let Err(error) = connected.map(|conn| self.enter(conn)) else {
+                return Ok(());
             };
             self.shared.lock().counts.failed += 1;
             self.calls = Calls::Report;
@@ -138,23 +112,21 @@ impl<M: ManageConnection> Attempt<M> {
         let learned = || config.connection_timeout.max(shared.lock().learned_limit);
         let limit = config.connect_timeout.unwrap_or_else(learned);
         let timer = is_limited.then(|| timer(limit)).flatten();
+        // It fires, too, if connecting uses up the budget of the task.
+        let mut timer = pin!(timer.map(unconstrained));
         let start = Instant::now();
         let connected = {
             let mut connecting = pin!(shared.connect());
             let connected = poll_fn(|cx| {
                 self.calls = Calls::Connect;
-                let connected = connecting.as_mut().poll(cx);
+                let connected = connecting.as_mut().poll(cx).map_err(Some);
                 self.calls = Calls::Nothing;
-                connected.map_err(Some)
-            });
-            let connected = match timer {
-                // The timer fires, too, if connecting uses up the budget of the task.
-                Some(timer) => match select(connected, pin!(unconstrained(timer))).await {
-                    Either::Left((connected, _)) => connected,
-                    Either::Right(_) => Err(None),
-                },
-                None => connected.await,
-            };
+                match timer.as_mut().as_pin_mut() {
+                    Some(timer) if connected.is_pending() => timer.poll(cx).map(|()| Err(None)),
+                    _ => connected,
+                }
+            })
+            .await;
             // The drop of the future that connects may panic, too.
             self.calls = Calls::Connect;
             connected
@@ -171,7 +143,7 @@ impl<M: ManageConnection> Attempt<M> {
     }
 
     /// As `run`, in a task of its own: it ends when the pool is closed, and reports the last error.
-    pub(crate) async fn run_alone(self) {
+    async fn run_alone(self) {
         let shared = self.shared.clone();
         let closed = pin!(shared.reached(|locked| locked.is_closed()));
         let run = pin!(self.run(true));
@@ -197,16 +169,12 @@ impl<M: ManageConnection> Attempt<M> {
         let mut locked = self.shared.lock();
         locked.give_back(at, approval);
         let granted = locked.core.ask(Moment(at)).count;
-        let max_size = self.shared.settings.config.max_size;
-        let approval = (granted > 0).then(|| locked.claim(at, max_size)).flatten();
-        // `ask` grants nothing for approvals that are still unclaimed, so those are opened, too.
-        let due = granted > 1 || locked.unopened;
-        drop(locked);
-        self.shared.closing.notify_waiters();
-        self.claimed = approval.map(|approval| Claimed { approval, reserved });
-        if due {
-            self.shared.open();
+        if granted > 0 {
+            self.claimed = locked.claim(at, Some(reserved));
         }
+        // `ask` grants nothing for approvals that are still unclaimed, so those are opened, too.
+        self.shared.leave(locked, granted.saturating_sub(1));
+        self.shared.closing.notify_waiters();
         self.claimed.is_some()
     }
 
@@ -223,7 +191,7 @@ impl<M: ManageConnection> Attempt<M> {
         let at = self.shared.now();
         let end = self.shared.set_end(&mut conn, at);
         let mut locked = self.shared.lock();
-        locked.pending -= 1;
+        locked.counts.pending -= 1;
         match fit(locked.core.opened(Moment(at), approval, Some(conn))) {
             OpenedAnswer::Entered(notified) => {
                 self.shared.entered(locked, at, approval, end, notified);
@@ -231,8 +199,8 @@ impl<M: ManageConnection> Attempt<M> {
             OpenedAnswer::Late(closed) => {
                 let filled = locked.core.fill(Moment(at), false).count;
                 let granted = filled + locked.core.ask(Moment(at)).count;
-                self.shared
-                    .follow(locked, at, (closed.map(|it| (it, RETIRED)), granted, None));
+                let after = (closed.map(|it| (it, RETIRED)), granted, None);
+                self.shared.follow(locked, at, after);
             }
         }
     }
@@ -250,7 +218,8 @@ impl<M: ManageConnection> Drop for Attempt<M> {
         self.goes_on();
         if let Some(claimed) = self.claimed.take() {
             self.back_off();
-            let next = Attempt::new(&self.shared, claimed, self.wait);
+            let mut next = Attempt::new(&self.shared, claimed);
+            next.wait = self.wait;
             // Outside of a runtime it is dropped, and left to the next one.
             if let Ok(runtime) = Handle::try_current() {
                 runtime.spawn(next.run_alone());
@@ -260,14 +229,59 @@ impl<M: ManageConnection> Drop for Attempt<M> {
 }
 
 impl<C> Locked<C> {
+    /// Claims an approval, with memory for its connection, or takes over an attempt that was cut
+    /// off. Returns `None` if there is none, or if memory or a slot is missing: then it is left to
+    /// be opened later. Closed connections count until they are dropped, so that no attempt brings
+    /// more than `max_size`.
+    fn claim(&mut self, at: u64, reserved: Option<Reserved<C>>) -> Option<Claimed<C>> {
+        if self.counts.dropping > 0 {
+            let connections = self.core.state(Moment(at)).connections;
+            let alive = [connections, self.counts.pending, self.counts.dropping];
+            if alive.map(u64::from).iter().sum::<u64>() >= self.max_size.into() {
+                self.unopened = true;
+                return None;
+            }
+        }
+        let claimed = match (self.cut_off.pop(), reserved) {
+            (Some(claimed), _) => claimed,
+            (None, Some(reserved)) => match self.core.claim(Moment(at)) {
+                ClaimAnswer::Claimed(Some(approval)) => Claimed { approval, reserved },
+                _ => return None,
+            },
+            (None, None) => {
+                self.unopened = true;
+                return None;
+            }
+        };
+        self.counts.pending += 1;
+        Some(claimed)
+    }
+
     /// Frees an approval whose attempt ended without a connection.
     fn give_back(&mut self, at: u64, approval: Key) {
-        self.pending -= 1;
+        self.counts.pending -= 1;
         fit(self.core.failed(Moment(at), approval));
     }
 }
 
 impl<M: ManageConnection> Shared<M> {
+    /// Opens connections for all approvals that are unclaimed, or whose attempts were cut off, each
+    /// in a task of its own.
+    pub(crate) fn open(self: &Arc<Self>) {
+        let runtime = Handle::try_current();
+        self.lock().unopened = runtime.is_err();
+        let Ok(runtime) = runtime else { return };
+        while let Some(attempt) = Attempt::claim(self) {
+            let number = attempt.claimed.as_ref().map(|it| it.approval.number);
+            runtime.spawn(attempt.run_alone());
+            let cut_off = self.lock().cut_off.last().map(|it| it.approval.number);
+            if cut_off == number {
+                // This runtime shuts down: it dropped the attempt, and would drop the others, too.
+                return;
+            }
+        }
+    }
+
     /// Leaves an approval to the next task that makes a step inside a runtime. To ensure that there
     /// is one, all waiting gets are woken: some may be in other runtimes. If the pool is closed or
     /// memory is refused, the approval is freed instead.
@@ -281,7 +295,7 @@ impl<M: ManageConnection> Shared<M> {
             return;
         }
         locked.cut_off.push(claimed);
-        locked.pending -= 1;
+        locked.counts.pending -= 1;
         locked.unopened = true;
         let wakers = locked.waiters.wakers();
         drop(locked);

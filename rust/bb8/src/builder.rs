@@ -3,6 +3,7 @@
 use crate::api::Pool;
 use crate::managers::{CustomizeConnection, ErrorSink, ManageConnection, NopErrorSink};
 use crate::pool::Owner;
+use bb8_core::api::QueueStrategy;
 use std::collections::hash_map::RandomState;
 use std::hash::{BuildHasher, Hasher};
 use std::time::Duration;
@@ -46,16 +47,6 @@ impl<M: ManageConnection> From<&Builder<M>> for Config {
     fn from(builder: &Builder<M>) -> Self {
         builder.config.clone()
     }
-}
-
-/// The order in which idle connections are checked out.
-#[derive(Debug, Default, Clone, Copy, PartialEq, Eq)]
-pub enum QueueStrategy {
-    /// The one that has been idle longest: all are used evenly.
-    #[default]
-    Fifo,
-    /// The one that became idle last: the others may reach their idle timeout.
-    Lifo,
 }
 
 /// Which connections are checked before they are checked out.
@@ -194,34 +185,36 @@ impl Config {
     }
 }
 
-impl<M: ManageConnection> Builder<M> {
-    /// Returns a builder with the default settings.
-    pub fn new() -> Self {
-        Builder::default()
-    }
+/// Defines setters of the fields of `Config`, each with the type of its parameter, which has the
+/// name of the field, and with the value of the field.
+macro_rules! setters {
+    ($($(#[$about:meta])* $field:ident($parameter:ty) = $value:expr;)*) => {
+        impl<M: ManageConnection> Builder<M> {
+            $($(#[$about])*
+            pub fn $field(mut self, $field: $parameter) -> Self {
+                self.config.$field = $value;
+                self
+            })*
+        }
+    };
+}
 
+setters! {
     /// Sets the maximum of connections and connection attempts, together: the number of slots. The
     /// default is 10. Panics if it is 0.
     #[doc(alias = "slot")]
-    pub fn max_size(mut self, max_size: u32) -> Self {
+    max_size(u32) = {
         assert!(max_size > 0, "max_size must be greater than zero!");
-        self.config.max_size = max_size;
-        self
-    }
+        max_size
+    };
 
     /// Sets how many idle connections the pool tries to keep, within `max_size`. The default is
     /// none. The idle timeout spares as many.
-    pub fn min_idle(mut self, min_idle: impl Into<Option<u32>>) -> Self {
-        self.config.min_idle = min_idle.into();
-        self
-    }
+    min_idle(impl Into<Option<u32>>) = min_idle.into();
 
     /// Sets whether the manager's `is_valid` checks a connection before it is checked out. The
     /// default is true.
-    pub fn test_on_check_out(mut self, test_on_check_out: bool) -> Self {
-        self.config.test_on_check_out = test_on_check_out;
-        self
-    }
+    test_on_check_out(bool) = test_on_check_out;
 
     /// Sets for how long a connection has to be idle until it is checked. The default is zero, so
     /// each connection is checked. With 250 ms or 1 s, most gets of a busy pool need no request to
@@ -245,18 +238,12 @@ impl<M: ManageConnection> Builder<M> {
     /// assert!(pool.get().await.is_ok());
     /// # }
     /// ```
-    pub fn test_on_check_out_after(mut self, idle: Duration) -> Self {
-        self.config.test_on_check_out_after = idle;
-        self
-    }
+    test_on_check_out_after(Duration) = test_on_check_out_after;
 
     /// Sets the age at which a connection is closed. The default is 30 minutes. An idle connection
     /// is closed by the next reap, a checked-out one when it is returned. See also
     /// [`Builder::max_lifetime_jitter`]. Panics if it is zero.
-    pub fn max_lifetime(mut self, max_lifetime: impl Into<Option<Duration>>) -> Self {
-        self.config.max_lifetime = above_zero(max_lifetime.into(), "max_lifetime");
-        self
-    }
+    max_lifetime(impl Into<Option<Duration>>) = above_zero(max_lifetime.into(), "max_lifetime");
 
     /// Sets the largest share of `max_lifetime` by which each connection's life is shortened at
     /// random. The default is 0. With 0.2 and 30 minutes connections live for 24 to 30 minutes, so
@@ -266,29 +253,24 @@ impl<M: ManageConnection> Builder<M> {
     /// The reaper closes each idle connection at its own end. One past its end is also closed when
     /// its guard is dropped, or when a get takes it out: [`Statistics`](crate::Statistics) counts
     /// these apart. Each get and each return reads the clock once more.
-    pub fn max_lifetime_jitter(mut self, share: f64) -> Self {
-        let is_share = (0.0..=1.0).contains(&share);
+    max_lifetime_jitter(f64) = {
+        let is_share = (0.0..=1.0).contains(&max_lifetime_jitter);
         assert!(is_share, "max_lifetime_jitter must be from 0 to 1!");
-        self.config.max_lifetime_jitter = share;
-        self
-    }
+        max_lifetime_jitter
+    };
 
     /// Sets how long a connection may be idle: the next reap after that closes it. The default is
     /// 10 minutes. `min_idle` idle connections are kept. Panics if it is zero.
-    pub fn idle_timeout(mut self, idle_timeout: impl Into<Option<Duration>>) -> Self {
-        self.config.idle_timeout = above_zero(idle_timeout.into(), "idle_timeout");
-        self
-    }
+    idle_timeout(impl Into<Option<Duration>>) = above_zero(idle_timeout.into(), "idle_timeout");
 
     /// Sets how long a get may take, and for how long a failed connection attempt is retried. It is
     /// the default of [`Builder::connect_timeout`], too. The default is 30 seconds. Panics if it is
     /// zero.
-    pub fn connection_timeout(mut self, connection_timeout: Duration) -> Self {
+    connection_timeout(Duration) = {
         let has_time = connection_timeout > Duration::ZERO;
         assert!(has_time, "connection_timeout must be non-zero");
-        self.config.connection_timeout = connection_timeout;
-        self
-    }
+        connection_timeout
+    };
 
     /// Sets how long one connection attempt may take. An attempt that takes longer is dropped,
     /// counts as failed, and is retried as any failed one ([`Builder::retry_connection`]). So a
@@ -301,10 +283,8 @@ impl<M: ManageConnection> Builder<M> {
     ///
     /// Exceptions: [`Builder::build`] waits for its first connections without this limit, as it has
     /// no error for it; and [`Pool::dedicated_connection`] has none.
-    pub fn connect_timeout(mut self, connect_timeout: impl Into<Option<Duration>>) -> Self {
-        self.config.connect_timeout = above_zero(connect_timeout.into(), "connect_timeout");
-        self
-    }
+    connect_timeout(impl Into<Option<Duration>>) =
+        above_zero(connect_timeout.into(), "connect_timeout");
 
     /// Sets how long a check may take. By default only its get's time limits it. One that takes
     /// longer counts as failed: its connection is closed, and the get goes on with the next one.
@@ -312,10 +292,7 @@ impl<M: ManageConnection> Builder<M> {
     ///
     /// Set it to some hundred milliseconds if connections may die without a reset, as in a
     /// failover. Without it, a get whose check hangs times out.
-    pub fn test_timeout(mut self, test_timeout: impl Into<Option<Duration>>) -> Self {
-        self.config.test_timeout = above_zero(test_timeout.into(), "test_timeout");
-        self
-    }
+    test_timeout(impl Into<Option<Duration>>) = above_zero(test_timeout.into(), "test_timeout");
 
     /// Sets whether a failed connection attempt is retried until `connection_timeout` has passed.
     /// The default is true. The pauses are 0.4 s, 0.8 s, 1.6 s and so on, at most half the
@@ -324,30 +301,16 @@ impl<M: ManageConnection> Builder<M> {
     /// Exception: as long as a get waits for it, an attempt is retried even after that time, even
     /// if this is false, and even if the manager panicked. So a get that outlives an outage is
     /// served.
-    pub fn retry_connection(mut self, retry: bool) -> Self {
-        self.config.retry_connection = retry;
-        self
-    }
-
-    /// Sets the sink for errors that no caller sees. By default they are ignored.
-    pub fn error_sink(mut self, error_sink: Box<dyn ErrorSink<M::Error>>) -> Self {
-        self.error_sink = error_sink;
-        self
-    }
+    retry_connection(bool) = retry_connection;
 
     /// Sets how often the pool closes connections that are too old, or idle for too long. The
     /// default is every 30 seconds. A pool without these limits has no reaper. The reaper ends with
     /// the runtime in which the pool was built. At zero, building a pool with a reaper panics.
-    pub fn reaper_rate(mut self, reaper_rate: Duration) -> Self {
-        self.config.reaper_rate = reaper_rate;
-        self
-    }
+    reaper_rate(Duration) = reaper_rate;
 
-    /// Sets which idle connection is checked out first. The default is `Fifo`.
-    pub fn queue_strategy(mut self, queue_strategy: QueueStrategy) -> Self {
-        self.config.queue_strategy = queue_strategy;
-        self
-    }
+    /// Sets which idle connection is checked out first. The default is `Fifo`, which uses all
+    /// evenly. With `Lifo`, those that are rarely needed may reach their idle timeout.
+    queue_strategy(QueueStrategy) = queue_strategy;
 
     /// Sets how long a get waits before it is handed a connection directly, which prevents
     /// starvation. By default this never happens. A millisecond is a good choice.
@@ -383,8 +346,18 @@ impl<M: ManageConnection> Builder<M> {
     /// # }
     /// ```
     #[doc(alias("queue", "starvation"))]
-    pub fn fair_after(mut self, wait: impl Into<Option<Duration>>) -> Self {
-        self.config.fair_after = wait.into();
+    fair_after(impl Into<Option<Duration>>) = fair_after.into();
+}
+
+impl<M: ManageConnection> Builder<M> {
+    /// Returns a builder with the default settings.
+    pub fn new() -> Self {
+        Builder::default()
+    }
+
+    /// Sets the sink for errors that no caller sees. By default they are ignored.
+    pub fn error_sink(mut self, error_sink: Box<dyn ErrorSink<M::Error>>) -> Self {
+        self.error_sink = error_sink;
         self
     }
 

@@ -2,12 +2,12 @@
 
 pub(crate) use bb8_core::api::Moment;
 pub(crate) use bb8_core::internals::{
-    AddAnswer, AtOnce, CheckedErrAnswer, ClaimAnswer, ClosedList, DetachAnswer, EvictAnswer,
-    GetKey, GiveUpAnswer, Key, OpenedAnswer, PutBackAnswer, ReapAnswer, Reason, Started, TryAnswer,
+    AddAnswer, CheckedErrAnswer, ClaimAnswer, ClosedList, DetachAnswer, EvictAnswer, GetKey,
+    GiveUpAnswer, Key, OpenedAnswer, PutBackAnswer, ReapAnswer, Reason, Started, TryAnswer,
 };
 
 use crate::boxed::Boxed;
-use crate::builder::{Checks, Config, QueueStrategy};
+use crate::builder::{Checks, Config};
 use bb8_core::api;
 #[cfg(not(test))]
 use bb8_core::internals::PoolInternals;
@@ -40,10 +40,7 @@ pub(crate) fn core<C>(settings: &Config) -> Core<C> {
         connection_timeout: settings.connection_timeout,
         retry_connection: settings.retry_connection,
         reaper_rate: settings.reaper_rate,
-        queue_strategy: match settings.queue_strategy {
-            QueueStrategy::Fifo => api::QueueStrategy::Fifo,
-            QueueStrategy::Lifo => api::QueueStrategy::Lifo,
-        },
+        queue_strategy: settings.queue_strategy,
     };
     // The core is proved for lawful settings alone.
     assert!(config.is_lawful(), "unlawful settings: {config:?}");

@@ -115,7 +115,7 @@ impl Statistics {
 
 impl State {
     /// The state of the core, and what the core does not count.
-    pub(crate) fn new(state: api::State, pending_connections: u32, counts: &Counts) -> Self {
+    pub(crate) fn new(state: api::State, counts: &Counts) -> Self {
         let figures = state.statistics;
         let opened = figures.connections_created.saturating_add(counts.added);
         let detached = figures.connections_detached.saturating_sub(counts.expired);
@@ -124,7 +124,7 @@ impl State {
         State {
             connections: state.connections,
             idle_connections: state.idle_connections,
-            pending_connections,
+            pending_connections: counts.pending,
             statistics: Statistics {
                 get_started: figures.get_started,
                 get_direct: figures.get_direct,

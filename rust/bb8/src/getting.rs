@@ -2,13 +2,13 @@
 
 use crate::api::{Pool, PooledConnection};
 use crate::builder::{Checks, Config};
-use crate::core::{fit, Checkout, Core, GetKey, Held, Moment, Reason, Started, TryAnswer};
+use crate::core::{fit, Checkout, GetKey, Held, Moment, Reason, Started, TryAnswer};
 use crate::errors::RunError;
 use crate::events::MAX_LIFETIME;
 use crate::lock::MutexGuard;
 use crate::managers::ManageConnection;
 use crate::pool::{Locked, Shared};
-use crate::returning::{Fate, Step};
+use crate::returning::Step;
 use crate::waiters::Handed;
 use std::future::{poll_fn, Future};
 use std::mem::{self, ManuallyDrop};
@@ -72,17 +72,24 @@ impl<M: ManageConnection> Pool<M> {
         let mut timer = pin!(None);
         let mut getting = Getting::new(shared);
         let tries = WAITS && shared.checks == Checks::All;
-        let mut first = tries.then(|| getting.try_at_once(0)).flatten();
+        // The moment does not matter: such a get neither waits nor leaves out a check.
+        let mut first = tries
+            .then(|| getting.begin::<false>(0, &mut None))
+            .flatten();
         let (checkout, began) = loop {
             let tried = match first.take() {
                 Some(tried) => tried,
                 None if WAITS => poll_fn(|cx| getting.try_in_time(cx, timer.as_mut(), limit)).await,
-                None => getting.try_idle().unwrap_or(Tried::NoneIdle),
+                None => {
+                    let at = shared.now_if(shared.checks == Checks::Stale);
+                    let tried = getting.try_once::<false>(at, &mut None);
+                    tried.unwrap_or(Tried::NoneIdle)
+                }
             };
             match tried {
                 Tried::Served => break getting.served(),
                 Tried::Taken => {}
-                Tried::TimedOut => match getting.time_out() {
+                Tried::TimedOut => match getting.end(Reason::TimedOut) {
                     Some(checkout) => break (checkout, getting.began),
                     None => return result(None),
                 },
@@ -201,33 +208,6 @@ impl<'a, M: ManageConnection> Getting<'a, M> {
         }
     }
 
-    /// Begins and tries if a connection is idle. Such a get does not wait, so its waker does not
-    /// matter, and its moment only decides whether the connection is checked.
-    // Inlining saves 26 instructions of a pair.
-    #[inline(always)]
-    fn try_at_once(&mut self, at: u64) -> Option<Tried> {
-        let mut locked = self.shared.lock();
-        if locked.core.idle() == 0 {
-            return None;
-        }
-        let started = self.start(&mut locked.core, at);
-        self.tried(locked, started, &mut None)
-    }
-
-    /// As `try_at_once`, but the get may have begun already.
-    fn try_idle(&mut self) -> Option<Tried> {
-        let at = self.shared.now_if(self.shared.checks == Checks::Stale);
-        if self.stage == Stage::New {
-            return self.try_at_once(at);
-        }
-        let mut locked = self.shared.lock();
-        if locked.core.idle() == 0 {
-            return None;
-        }
-        let answer = fit(locked.core.try_get(Moment(at), self.key));
-        self.tried(locked, Ok(answer), &mut None)
-    }
-
     /// Resolves once the get has a connection, its time is over, or it could not begin.
     fn try_in_time(
         &mut self,
@@ -237,11 +217,12 @@ impl<'a, M: ManageConnection> Getting<'a, M> {
     ) -> Poll<Tried> {
         // Wakers are cloned and dropped, and the clock is read, outside of the lock.
         let mut waker = Some(cx.waker().clone());
-        let tried = match self.stage {
-            Stage::New => self.begin(&mut waker),
-            _ => self.retry(&mut waker),
+        let at = match self.stage {
+            Stage::New => self.since(),
+            // If a check follows, the moment at its end decides how long the get waited.
+            _ => self.shared.now_if(self.shared.checks != Checks::All),
         };
-        if let Some(tried) = tried {
+        if let Some(tried) = self.try_once::<true>(at, &mut waker) {
             return Poll::Ready(tried);
         }
         let config = &self.shared.settings.config;
@@ -249,20 +230,23 @@ impl<'a, M: ManageConnection> Getting<'a, M> {
         timer.poll(cx).map(|()| Tried::TimedOut)
     }
 
-    /// Begins and tries. Returns `None` if the get waits.
-    pub(crate) fn begin(&mut self, waker: &mut Option<Waker>) -> Option<Tried> {
-        let at = self.since();
-        let mut locked = self.shared.lock();
-        let started = self.start(&mut locked.core, at);
-        self.tried(locked, started, waker)
+    /// Returns the moment at which the get began.
+    fn since(&mut self) -> u64 {
+        let began = *self.began.get_or_insert_with(Instant::now);
+        *self.since.get_or_insert_with(|| self.shared.moment(began))
     }
 
-    /// Tries again. Returns `None` if the get waits.
-    fn retry(&mut self, waker: &mut Option<Waker>) -> Option<Tried> {
-        // If a check follows, the moment at its end decides how long the get waited.
-        let at = self.shared.now_if(self.shared.checks != Checks::All);
+    /// Begins if it has not, and tries once. Returns `None` if it waits, or if no connection is
+    /// idle and it must not wait.
+    fn try_once<const WAITS: bool>(&mut self, at: u64, waker: &mut Option<Waker>) -> Option<Tried> {
+        if self.stage == Stage::New {
+            return self.begin::<WAITS>(at, waker);
+        }
         let _removed;
         let mut locked = self.shared.lock();
+        if !WAITS && locked.core.idle() == 0 {
+            return None;
+        }
         if let Some(handed) = locked.waiters.take_handed(self.key) {
             drop(locked);
             return Some(self.take(handed));
@@ -272,17 +256,19 @@ impl<'a, M: ManageConnection> Getting<'a, M> {
         self.tried(locked, Ok(answer), waker)
     }
 
-    /// Returns the moment at which the get began.
-    fn since(&mut self) -> u64 {
-        let began = *self.began.get_or_insert_with(Instant::now);
-        *self.since.get_or_insert_with(|| self.shared.moment(began))
-    }
-
-    /// Begins, and tries once. Returns an error if it could not begin.
-    // Inlining saves 30 instructions of a pair.
+    /// As `try_once` for a get that has not begun.
+    // Inlining saves 33 instructions of a pair.
     #[inline(always)]
-    fn start(&mut self, core: &mut Core<M::Connection>, at: u64) -> Result<Answered<M>, Tried> {
-        match core.start(Moment(at)) {
+    pub(crate) fn begin<const WAITS: bool>(
+        &mut self,
+        at: u64,
+        waker: &mut Option<Waker>,
+    ) -> Option<Tried> {
+        let mut locked = self.shared.lock();
+        if !WAITS && locked.core.idle() == 0 {
+            return None;
+        }
+        let tried = match locked.core.start(Moment(at)) {
             Ok(Started::Tried(key, answer)) => {
                 self.key = key;
                 self.stage = Stage::Begun;
@@ -290,7 +276,8 @@ impl<'a, M: ManageConnection> Getting<'a, M> {
             }
             Ok(Started::Memory) | Err(_) => Err(Tried::Refused),
             Ok(Started::Exhausted) => Err(Tried::Exhausted),
-        }
+        };
+        self.tried(locked, tried, waker)
     }
 
     /// Goes on after a try. Returns `None` if the get waits.
@@ -299,7 +286,7 @@ impl<'a, M: ManageConnection> Getting<'a, M> {
     fn tried(
         &mut self,
         mut locked: MutexGuard<'_, Locked<M::Connection>>,
-        tried: Result<Answered<M>, Tried>,
+        tried: Result<TryAnswer<Held<M::Connection>>, Tried>,
         waker: &mut Option<Waker>,
     ) -> Option<Tried> {
         let (tried, granted) = match tried {
@@ -314,16 +301,12 @@ impl<'a, M: ManageConnection> Getting<'a, M> {
             }
             Ok(TryAnswer::Waiting(grant)) => {
                 self.stage = Stage::Waited;
-                let noted = locked.waiters.wait(self.key, self.since(), waker);
-                ((!noted).then_some(Tried::Refused), grant.count)
+                let waits = locked.waiters.wait(self.key, self.since(), waker);
+                ((!waits).then_some(Tried::Refused), grant.count)
             }
             Err(refused) => (Some(refused), 0),
         };
-        let due = granted > 0 || locked.unopened;
-        drop(locked);
-        if due {
-            self.shared.open();
-        }
+        self.shared.leave(locked, granted);
         tried
     }
 
@@ -390,30 +373,24 @@ impl<'a, M: ManageConnection> Getting<'a, M> {
         began.elapsed() >= limit(&self.shared.settings.config)
     }
 
-    /// Ends because its time is over, unless it was served since its last try.
-    pub(crate) fn time_out(&mut self) -> Option<Checkout<M::Connection>> {
-        self.end(Reason::TimedOut)
-    }
-
     /// Closes the connection as one whose check failed.
     fn close_as(&mut self, reason: &'static str) {
-        let Some(checkout) = self.held.take() else {
-            return;
-        };
-        let step = Step::CheckFailed(self.key);
-        self.shared.take_back(checkout, Fate::Closed(reason), step);
+        if let Some(checkout) = self.held.take() {
+            let step = Step::CheckFailed(self.key, reason);
+            self.shared.take_back(checkout, step);
+        }
     }
 
     /// Ends without a connection, unless it was served since its last try. If that cuts off a
     /// check, the connection is closed.
     // Inlining saves 18 instructions of a cancelled get.
     #[inline(always)]
-    fn end(&mut self, reason: Reason) -> Option<Checkout<M::Connection>> {
-        let mut fate = Fate::CutOff;
+    pub(crate) fn end(&mut self, reason: Reason) -> Option<Checkout<M::Connection>> {
+        let mut is_cut_off = true;
         if self.held.is_none() {
             let shared = self.shared;
             // Of a cancelled get the moment only matters for how long others have waited.
-            let matters = matches!(reason, Reason::TimedOut) || shared.fair_after.is_some();
+            let matters = reason == Reason::TimedOut || shared.fair_after.is_some();
             let at = shared.now_if(matters);
             let _removed;
             let mut locked = shared.lock();
@@ -421,8 +398,7 @@ impl<'a, M: ManageConnection> Getting<'a, M> {
                 _removed = locked.waiters.remove(self.key);
                 self.stage = Stage::Ended;
                 let given_up = locked.core.give_up(Moment(at), self.key, reason, false);
-                let notified = fit(given_up).notified();
-                self.shared.settle(locked, at, notified);
+                shared.settle(locked, at, fit(given_up).notified());
                 return None;
             };
             drop(locked);
@@ -433,23 +409,18 @@ impl<'a, M: ManageConnection> Getting<'a, M> {
             // not checked, this one would be checked out as a fresh one next; and nothing else
             // closes an idle connection whose own end has passed.
             let held = self.held.as_ref();
-            let is_past_end = held.is_some_and(|it| self.shared.is_past_end(&it.conn));
-            if self.shared.checks != Checks::Stale && !is_past_end {
-                fate = Fate::Kept;
-            }
-        } else if let Reason::TimedOut = reason {
+            let is_past_end = held.is_some_and(|it| shared.is_past_end(&it.conn));
+            is_cut_off = shared.checks == Checks::Stale || is_past_end;
+        } else if reason == Reason::TimedOut {
             self.shared.lock().counts.checks_timed_out += 1;
             self.shared.failed(CHECK, None);
         }
         self.stage = Stage::Ended;
-        let checkout = self.held.take()?;
-        let step = Step::GiveBack(self.key, reason);
-        self.shared.take_back(checkout, fate, step);
+        let step = Step::GiveBack(self.key, reason, is_cut_off);
+        self.shared.take_back(self.held.take()?, step);
         None
     }
 }
-
-type Answered<M> = TryAnswer<Held<<M as ManageConnection>::Connection>>;
 
 impl<M: ManageConnection> Drop for Getting<'_, M> {
     fn drop(&mut self) {
@@ -458,8 +429,8 @@ impl<M: ManageConnection> Drop for Getting<'_, M> {
         }
         // If it was served meanwhile, its connection is returned.
         if let Some(checkout) = self.end(Reason::Cancelled) {
-            let (fate, step) = (Fate::Kept, Step::PutBack);
-            self.shared.take_back(checkout, fate, step);
+            let step = Step::PutBack { inspects: false };
+            self.shared.take_back(checkout, step);
         }
     }
 }

@@ -14,7 +14,6 @@ mod ends;
 mod errors;
 mod events;
 mod figures;
-mod gets;
 mod getting;
 mod lock;
 mod managers;
@@ -25,7 +24,9 @@ mod tests;
 mod waiters;
 
 pub use api::{Pool, PooledConnection};
-pub use builder::{Builder, Config, QueueStrategy};
+#[doc(inline)]
+pub use bb8_core::api::QueueStrategy;
+pub use builder::{Builder, Config};
 pub use errors::{AddError, RunError};
 pub use figures::{State, Statistics};
 pub use managers::{CustomizeConnection, ErrorSink, ManageConnection, NopErrorSink};

@@ -11,6 +11,7 @@ use crate::lock::MutexGuard;
 use crate::managers::ManageConnection;
 use crate::pool::{Locked, Shared};
 use crate::waiters::Handed;
+use std::iter;
 use std::mem::forget;
 use std::panic::{catch_unwind, resume_unwind, AssertUnwindSafe};
 use std::sync::Arc;
@@ -25,12 +26,14 @@ pub(crate) type After<C> = (Option<(Boxed<C>, &'static str)>, u32, Option<GetKey
 /// The step that returns a checked-out connection to the core.
 #[derive(Clone, Copy)]
 pub(crate) enum Step {
-    /// A guard is dropped.
-    PutBack,
-    /// The check of this get failed.
-    CheckFailed(GetKey),
-    /// This get ends without a connection.
-    GiveBack(GetKey, Reason),
+    /// A guard is dropped. The connection is kept unless it is broken or, if it is inspected, the
+    /// customizer does not keep it or its own end has passed.
+    PutBack { inspects: bool },
+    /// The check of this get failed. The connection is closed for this reason.
+    CheckFailed(GetKey, &'static str),
+    /// This get ends without a connection. If its check was cut off (the last field is true),
+    /// nobody knows what the server sends next, so the connection is closed as broken.
+    GiveBack(GetKey, Reason, bool),
 }
 
 /// A step that still has to return a connection to the core. If this is dropped, the step is made
@@ -50,48 +53,29 @@ impl<M: ManageConnection> Drop for Owed<'_, M> {
     }
 }
 
-/// The fate of a returned connection.
-#[derive(Clone, Copy, PartialEq, Eq)]
-pub(crate) enum Fate {
-    /// It is kept unless it is broken, the customizer does not keep it, or it is past its own end.
-    Released,
-    /// It is kept unless it is broken.
-    Kept,
-    /// It is closed for this reason, whether it is broken or not.
-    Closed(&'static str),
-    /// It is closed as broken: its check was cut off, so nobody knows what the server sends next.
-    CutOff,
-}
-
 impl<M: ManageConnection> Shared<M> {
     /// Returns a guard's connection to the pool.
     // Inlining saves 62 instructions of a pair.
     #[inline]
     pub(crate) fn release(self: &Arc<Self>, checkout: Checkout<M::Connection>) {
         if self.inspects {
-            self.inspect(checkout);
+            self.take_back(checkout, Step::PutBack { inspects: true });
         } else {
-            self.take_back(checkout, Fate::Kept, Step::PutBack);
+            self.take_back_inline(checkout, Step::PutBack { inspects: false });
         }
-    }
-
-    /// Inspects a connection, and returns it to the pool unless it is to be closed.
-    // Not inlining saves 52 instructions of a pair.
-    #[inline(never)]
-    fn inspect(self: &Arc<Self>, checkout: Checkout<M::Connection>) {
-        self.take_back(checkout, Fate::Released, Step::PutBack);
     }
 
     /// Returns a checked-out connection by a step. If it is not kept, or if the manager or the
     /// customizer panics, it is dropped before the core frees its slot, and counts as broken.
-    // Inlining saves 63 instructions of a pair.
+    // Not inlining saves 52 instructions of a pair.
+    #[inline(never)]
+    pub(crate) fn take_back(self: &Arc<Self>, checkout: Checkout<M::Connection>, step: Step) {
+        self.take_back_inline(checkout, step);
+    }
+
+    // Inlining saves 51 instructions of a pair. A third caller would prevent it.
     #[inline]
-    pub(crate) fn take_back(
-        self: &Arc<Self>,
-        checkout: Checkout<M::Connection>,
-        fate: Fate,
-        step: Step,
-    ) {
+    fn take_back_inline(self: &Arc<Self>, checkout: Checkout<M::Connection>, step: Step) {
         let key = checkout.key;
         let mut owed = Owed {
             shared: self,
@@ -101,13 +85,17 @@ impl<M: ManageConnection> Shared<M> {
         };
         // Declared after `owed`, so that it is dropped first.
         let mut conn = checkout.conn;
-        let is_broken = fate == Fate::CutOff || self.manager.has_broken(&mut conn);
-        let reason = match fate {
-            Fate::Closed(reason) => Some(reason),
-            Fate::Released if !is_broken => self.inspected(&mut conn),
+        let is_cut_off = matches!(step, Step::GiveBack(_, _, true));
+        let is_broken = is_cut_off || self.manager.has_broken(&mut conn);
+        let reason = match step {
+            _ if is_broken => None,
+            Step::CheckFailed(_, reason) => {
+                owed.broken = false;
+                Some(reason)
+            }
+            Step::PutBack { inspects: true } => self.inspected(&mut conn),
             _ => None,
         };
-        owed.broken = is_broken || fate == Fate::Released && reason.is_some();
         match reason {
             _ if is_broken => report!(warn, self, age = ?conn.age(), "broken connection closed"),
             Some(reason) => self.closed(&conn, reason),
@@ -123,39 +111,32 @@ impl<M: ManageConnection> Shared<M> {
     #[inline(always)]
     fn make(self: &Arc<Self>, step: Step, key: Key, conn: Held<M::Connection>, broken: bool) {
         let at = match step {
-            Step::PutBack => self.now_if(self.dates_returns),
+            Step::PutBack { .. } => self.now_if(self.dates_returns),
             _ => self.now(),
         };
         let moment = Moment(at);
         let mut locked = self.lock();
         let core = &mut locked.core;
-        match step {
-            Step::PutBack => match fit(core.put_back(moment, key, conn, broken)) {
-                PutBackAnswer::Kept(get) => self.settle(locked, at, get),
-                PutBackAnswer::Closed(conn, grant, get) => {
-                    let reason = locked.reason();
-                    let closed = conn.map(|it| (it, reason));
-                    self.follow(locked, at, (closed, grant.count, get))
-                }
+        let (closed, grant, notified) = match step {
+            Step::PutBack { .. } => match fit(core.put_back(moment, key, conn, broken)) {
+                PutBackAnswer::Kept(get) => return self.settle(locked, at, get),
+                PutBackAnswer::Closed(conn, grant, get) => (conn, grant, get),
             },
-            Step::CheckFailed(get) => {
+            Step::CheckFailed(get, _) => {
                 let answer = fit(core.checked_err(moment, get, conn, broken, key.place));
                 let CheckedErrAnswer::Closed(_, conn, grant, notified) = answer;
-                let reason = locked.reason();
-                let closed = conn.map(|it| (it, reason));
-                self.follow(locked, at, (closed, grant.count, notified))
+                (conn, grant, notified)
             }
-            Step::GiveBack(get, reason) => {
+            Step::GiveBack(get, reason, _) => {
                 match fit(core.give_back(moment, get, reason, conn, broken, key.place)) {
-                    GiveUpAnswer::Closed(_, conn, grant, get) => {
-                        let reason = locked.reason();
-                        let closed = conn.map(|it| (it, reason));
-                        self.follow(locked, at, (closed, grant.count, get))
-                    }
-                    kept => self.settle(locked, at, kept.notified()),
+                    GiveUpAnswer::Closed(_, conn, grant, get) => (conn, grant, get),
+                    kept => return self.settle(locked, at, kept.notified()),
                 }
             }
-        }
+        };
+        let reason = locked.reason();
+        let closed = closed.map(|it| (it, reason));
+        self.follow(locked, at, (closed, grant.count, notified));
     }
 
     /// Returns the reason to close an unbroken connection that a guard returns, if there is one.
@@ -204,13 +185,9 @@ impl<M: ManageConnection> Shared<M> {
             Some(get) => self.notify(&mut locked, at, get),
             None => (None, 0),
         };
-        let due = locked.unopened || granted + more > 0;
-        locked.dropping += u32::from(closed.is_some());
+        locked.counts.dropping += u32::from(closed.is_some());
         let is_closed = locked.is_closed();
-        drop(locked);
-        if due {
-            self.open();
-        }
+        self.leave(locked, granted + more);
         let Some((conn, reason)) = closed else {
             return waker.map_or((), Waker::wake);
         };
@@ -249,13 +226,9 @@ impl<M: ManageConnection> Shared<M> {
     /// Drops the connections that a step closed all at once, one by one. If some of the destructors
     /// panic, the others run all the same, and the first panic is returned.
     pub(crate) fn drop_closed(self: &Arc<Self>, reason: &str) -> thread::Result<()> {
-        let mut result = Ok(());
-        loop {
-            let Some(conn) = self.lock().take_closed() else {
-                return result;
-            };
-            result = result.and(self.drop_one(conn, reason));
-        }
+        let closed = iter::from_fn(|| self.lock().closed.pop()?.conn);
+        let dropped = closed.map(|conn| self.drop_one(conn, reason));
+        dropped.fold(Ok(()), Result::and)
     }
 
     /// Drops a connection that a step closed, and opens connections that waited for its slot.
@@ -267,19 +240,12 @@ impl<M: ManageConnection> Shared<M> {
             drop(conn);
         }));
         let mut locked = self.lock();
-        locked.dropping -= 1;
-        let is_inside = Handle::try_current().is_ok();
-        let due = locked.unopened;
-        let wakers = match due && !is_inside {
-            true => locked.waiters.wakers(),
-            false => Vec::new(),
-        };
-        drop(locked);
+        locked.counts.dropping -= 1;
+        let is_outside = Handle::try_current().is_err();
+        let wakers = (locked.unopened && is_outside).then(|| locked.waiters.wakers());
+        self.leave(locked, 0);
         self.closing.notify_waiters();
-        if due && is_inside {
-            self.open();
-        }
-        dropped.and(wake_all(wakers))
+        dropped.and(wake_all(wakers.into_iter().flatten()))
     }
 }
 

@@ -12,7 +12,7 @@ pub(crate) struct Handed<C> {
     pub(crate) served: bool,
 }
 
-struct Waiting {
+pub(crate) struct Waiting {
     number: u64,
     since: u64,
     waker: Option<Waker>,
@@ -21,7 +21,7 @@ struct Waiting {
 /// The waiting gets of one pool.
 pub(crate) struct Waiters<C> {
     /// By their index in the core's table of gets.
-    waiting: Vec<Option<Waiting>>,
+    pub(crate) waiting: Vec<Option<Waiting>>,
     count: usize,
     /// By their number, as the core may reuse their index.
     handed: HashMap<u64, Handed<C>>,
@@ -135,10 +135,5 @@ impl<C> Waiters<C> {
             wakers.extend(waiting.filter_map(|it| it.waker.take()));
         }
         wakers
-    }
-
-    #[cfg(test)]
-    pub(crate) fn capacity(&self) -> usize {
-        self.waiting.capacity()
     }
 }

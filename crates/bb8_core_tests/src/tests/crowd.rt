@@ -1,49 +1,31 @@
 //! 25,000 waiting gets: the notified one, the statistics, and that a step reads at most four
 //! entries.
 
-use super::{Player, assert_equal, granted};
+use super::{Player, assert_equal, grant};
 use bb8_core::replay::{Act, Answer};
 use std::process::Abort;
 use std::test::Fail;
 
-/// The number of waiters.
+/// The number of waiters, and the last of them.
 const CROWD: u64 = 25_000;
 
+const LAST: u64 = CROWD - 1;
+
 impl Player {
-    /// Makes an event, asserts that it read at most four entries, and returns its result.
-    fn reads_few(&mut self, rt: &impl Abort, act: Act) -> Answer {
-        let answer = self.makes(0, act);
+    /// Makes an event, and asserts its result, and that it read at most four entries.
+    fn reads_few(&mut self, rt: &impl Abort, act: Act, wanted: Answer) {
+        assert_equal(&rt, self.makes(0, act), wanted);
         assert!(rt; self.pool.examined() <= 4);
-        answer
     }
 
-    /// Has all gets begin and wait. Each requests an approval up to `max_size`.
-    fn waits(&mut self, rt: &impl Abort, max_size: u64) {
-        for get in 0..CROWD {
-            assert_equal(&rt, self.reads_few(rt, Act::Begin), Answer::Begun(get));
-            let grant = granted(get.min(max_size), if get < max_size { 1 } else { 0 });
-            let answer = self.reads_few(rt, Act::Try(get));
-            assert_equal(&rt, answer, Answer::Waiting(grant));
-        }
-    }
-
-    /// Opens the connection of an approval, which notifies this get.
-    fn opens(&mut self, rt: &impl Abort, number: u64, get: u64) {
-        let claimed = self.reads_few(rt, Act::Claim);
-        assert_equal(&rt, claimed, Answer::Claimed(Some(number)));
-        let entered = self.reads_few(rt, Act::Opened(number));
-        assert_equal(&rt, entered, Answer::Entered(number, Some(get)));
-    }
-
-    /// Serves a notified get, which returns its connection. Returns the get that this notifies.
-    fn serves(&mut self, rt: &impl Abort, get: u64) -> Option<u64> {
-        let Answer::Served(number, _) = self.reads_few(rt, Act::Try(get)) else {
-            panic!(rt; "{get} was not served");
-        };
-        match self.reads_few(rt, Act::PutBack(number, false)) {
-            Answer::Kept(_, notified) => notified,
-            _ => panic!(rt; "no guard holds {number}, or it was closed"),
-        }
+    /// Serves a get with a connection, whose return notifies another get.
+    fn serves(&mut self, rt: &impl Abort, number: u64, get: u64, notified: Option<u64>) {
+        self.reads_few(rt, Act::Try(get), Answer::Served(number, grant(3, 0, 0)));
+        self.reads_few(
+            rt,
+            Act::PutBack(number, false),
+            Answer::Kept(number, notified),
+        );
     }
 }
 
@@ -52,19 +34,26 @@ impl Player {
 /// attempts notified, which come last.
 #[test]
 fn crowd_is_served_over_three_connections(rt: HostRuntime) -> Result<(), Fail> {
-    let mut player = Player::new(rt.alloc(), "config max_size=3 check=off")?;
-    player.waits(&rt, 3);
+    let config = "config max_size=3 check=off";
+    let mut player = Player::new(rt.alloc(), config).expect(&rt, "no memory");
+    for get in 0..CROWD {
+        player.reads_few(&rt, Act::Begin, Answer::Begun(get));
+        let granted = grant(get.min(3), if get < 3 { 1 } else { 0 }, 0);
+        player.reads_few(&rt, Act::Try(get), Answer::Waiting(granted));
+    }
     for number in 0..3 {
-        player.opens(&rt, number, number);
+        player.reads_few(&rt, Act::Claim, Answer::Claimed(Some(number)));
+        let entered = Answer::Entered(number, Some(number));
+        player.reads_few(&rt, Act::Opened(number), entered);
     }
-    let mut notified = player.serves(&rt, 0);
-    for get in 3..CROWD {
-        assert_equal(&rt, notified, Some(get));
-        notified = player.serves(&rt, get);
+    player.serves(&rt, 0, 0, Some(3));
+    for get in 3..LAST {
+        let number = get.saturating_sub(2) % 3;
+        player.serves(&rt, number, get, Some(get.saturating_add(1)));
     }
-    assert_equal(&rt, notified, None);
-    assert_equal(&rt, player.serves(&rt, 1), None);
-    assert_equal(&rt, player.serves(&rt, 2), None);
+    player.serves(&rt, (LAST - 2) % 3, LAST, None);
+    player.serves(&rt, (LAST - 1) % 3, 1, None);
+    player.serves(&rt, LAST % 3, 2, None);
     player.plays(
         &rt,
         "0 state | state connections 3 idle 3 started 25000 direct 0 waited 25000 timed_out 0 cancelled 0 wait_us 0 created 3 broken 0 invalid 0 lifetime 0 idle_timeout 0 | 0 0\n",

@@ -1,17 +1,14 @@
-//! Scripts, as far as no transcript can show them: faults of streams, verdicts,
-//! and invisible bytes.
+//! Scripts, as far as no transcript can show them: streams that fail, messages, rare results, and
+//! refused memory.
 
 use super::assert_equal;
 use bb8_runner::fault::Fault;
 use bb8_runner::script::run_script;
 use bb8_runner::verdict::Verdict;
-use std::io;
-use std::io::{ErrorKind, Read, Write};
-use std::test::Fail;
+use std::io::{self, ErrorKind, Read, Write};
 
 mod answers;
 mod errors;
-mod judged;
 mod refusals;
 
 /// One connection is added, checked out and returned.
@@ -22,30 +19,39 @@ const SCRIPT: &[u8] = b"\
     0 try 0\n\
     0 return 0\n";
 
-/// Returns the verdict and the output of a script.
-fn run(rt: &HostRuntime, input: &[u8]) -> Result<(Verdict, Vec<u8>), Fail> {
-    let mut reader = input;
-    let mut written = Vec::new(rt.alloc());
-    match run_script(rt.alloc(), &mut reader, &mut written, &mut io::sink()) {
-        Ok(verdict) => Ok((verdict, written)),
-        Err(_) => Err(Fail::from("a fault")),
+/// The number of a call that is never made.
+const NEVER: u32 = u32::MAX;
+
+/// A stream that reads these bytes, or takes others, three at a time, and fails at one call.
+#[derive(Drop)]
+struct Stream {
+    rest: &'static [u8],
+    calls: u32,
+    fails_at: u32,
+}
+
+impl Stream {
+    fn new(fails_at: u32) -> Stream {
+        Stream {
+            rest: SCRIPT,
+            calls: 0,
+            fails_at,
+        }
+    }
+
+    /// Counts a call.
+    fn call(&mut self) -> io::Result<()> {
+        if self.calls == self.fails_at {
+            return Err(io::Error::from(ErrorKind::Other));
+        }
+        self.calls = self.calls.saturating_add(1);
+        Ok(())
     }
 }
 
-/// A reader that returns three bytes at a time, and fails at this read, if one is set.
-#[derive(Drop)]
-struct CountedReader<'a> {
-    rest: &'a [u8],
-    reads: u32,
-    fails_at: Option<u32>,
-}
-
-impl Read for CountedReader<'_> {
+impl Read for Stream {
     fn read(&mut self, buf: &mut [u8]) -> io::Result<usize> {
-        if self.fails_at == Some(self.reads) {
-            return Err(io::Error::from(ErrorKind::Other));
-        }
-        self.reads = self.reads.saturating_add(1);
+        self.call()?;
         let count = self.rest.len().min(buf.len()).min(3);
         let (front, rest) = self.rest.split_at(count);
         buf[..count].copy_from_slice(front);
@@ -54,20 +60,10 @@ impl Read for CountedReader<'_> {
     }
 }
 
-/// A writer that takes five bytes at a time, and fails at this write, if one is set.
-#[derive(Drop)]
-struct CountedWriter {
-    writes: u32,
-    fails_at: Option<u32>,
-}
-
-impl Write for CountedWriter {
+impl Write for Stream {
     fn write(&mut self, buf: &[u8]) -> io::Result<usize> {
-        if self.fails_at == Some(self.writes) {
-            return Err(io::Error::from(ErrorKind::Other));
-        }
-        self.writes = self.writes.saturating_add(1);
-        Ok(buf.len().min(5))
+        self.call()?;
+        Ok(buf.len().min(3))
     }
 
     fn flush(&mut self) -> io::Result<()> {
@@ -75,49 +71,21 @@ impl Write for CountedWriter {
     }
 }
 
-fn reader(fails_at: Option<u32>) -> CountedReader<'static> {
-    CountedReader {
-        rest: SCRIPT,
-        reads: 0,
-        fails_at,
-    }
-}
-
 #[test]
-fn fails_at_each_read(rt: HostRuntime) {
-    let mut whole = reader(None);
-    let mut written = Vec::new(rt.alloc());
-    let outcome = run_script(rt.alloc(), &mut whole, &mut written, &mut io::sink());
+fn fails_at_each_read_and_write(rt: HostRuntime) {
+    let alloc = rt.alloc();
+    let (mut reader, mut writer) = (Stream::new(NEVER), Stream::new(NEVER));
+    let outcome = run_script(alloc, &mut reader, &mut writer, &mut io::sink());
     assert_equal(&rt, outcome, Ok(Verdict::Ran));
-    assert!(rt; whole.reads > 20);
-    for k in 0..whole.reads {
-        let mut written = Vec::new(rt.alloc());
-        let outcome = run_script(
-            rt.alloc(),
-            &mut reader(Some(k)),
-            &mut written,
-            &mut io::sink(),
-        );
+    assert!(&rt; reader.calls > 20 && writer.calls > 20);
+    for call in 0..reader.calls {
+        let mut failing = Stream::new(call);
+        let outcome = run_script(alloc, &mut failing, &mut io::sink(), &mut io::sink());
         assert_equal(&rt, outcome, Err(Fault::Read));
-        assert!(rt; written.is_empty());
     }
-}
-
-#[test]
-fn fails_at_each_write(rt: HostRuntime) {
-    let mut whole = CountedWriter {
-        writes: 0,
-        fails_at: None,
-    };
-    let outcome = run_script(rt.alloc(), &mut reader(None), &mut whole, &mut io::sink());
-    assert_equal(&rt, outcome, Ok(Verdict::Ran));
-    assert!(rt; whole.writes > 20);
-    for k in 0..whole.writes {
-        let mut failing = CountedWriter {
-            writes: 0,
-            fails_at: Some(k),
-        };
-        let outcome = run_script(rt.alloc(), &mut reader(None), &mut failing, &mut io::sink());
+    for call in 0..writer.calls {
+        let (mut whole, mut failing) = (Stream::new(NEVER), Stream::new(call));
+        let outcome = run_script(alloc, &mut whole, &mut failing, &mut io::sink());
         assert_equal(&rt, outcome, Err(Fault::Write));
     }
 }

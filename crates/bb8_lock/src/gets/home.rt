@@ -93,7 +93,7 @@ pub trait GetHome<C> {
     ghost releases: { Self → Self → Type 0 };
 
     // Relates a home, a moment, and a step with its arguments and each possible result, to the home
-    // after it. For `look` the moment is a reading of the clock.
+    // after it. For `look` and `start` the moment is a reading of the clock.
     ghost steps: { Self → MomentOf → GetStep C Self.Permit Self.Handle → Self → Type 0 };
 
     /// Releases the home until its next step. It is called between a step and the user callback
@@ -105,9 +105,10 @@ pub trait GetHome<C> {
     fn look(&mut self, at: Moment) -> Looked
         ensures { steps self.old at (Looks result) self.new };
 
-    /// Begins a get and lets it try, in one step.
-    fn start(&mut self, at: Moment) -> Result<FirstTry<C, Self::Permit>, Unfit>
-        ensures { steps self.old at (Starts result) self.new };
+    /// Returns the effective moment at this reading of the clock, begins a get at it and lets it
+    /// try, in one step.
+    fn start(&mut self, at: Moment) -> (Moment, Result<FirstTry<C, Self::Permit>, Unfit>)
+        ensures { steps self.old at (Starts result.0 result.1) self.new };
 
     /// Gives a get an idle connection, with which it is served or which it must check; or lets the
     /// get wait.

@@ -3,7 +3,7 @@
 //! The home is released between a step and the user callback after it.
 ghost use Rattle.std.specs.Prelude.{◌≡◌};
 ghost use Rattle.std.specs.Duration.{as_nanos};
-ghost use Rattle.bb8_lock.specs.Polls.{IsDeadline, closed_in, AfterGiveUp, Asks, CheckFails, Checks, AfterTry, Tries, GetAdvances, DropsAfterStep, LeavesLine, Retries, TakesBack, TimesOut, Settles, EndsPoll};
+ghost use Rattle.bb8_lock.specs.Polls.{IsDeadline, closed_in, AfterGiveUp, Asks, CheckFails, Checks, AfterTry, Tries, DropsAfterStep, LeavesLine, Retries, TakesBack, TimesOut, Settles, EndsPoll};
 
 use super::home::{FirstTry, GetHome, Passed, Returned, Taken, Tried};
 use super::outside::Outside;
@@ -92,7 +92,7 @@ fn fail<C, V, P, E, X: GetHome<C, Permit = P> + Outside<C, E, Checking = V>>(
 
 /// Polls a check once.
 #[inline(always)]
-fn check<C, V, P, E, X: GetHome<C, Permit = P> + Outside<C, E, Checking = V>>(
+pub(crate) fn check<C, V, P, E, X: GetHome<C, Permit = P> + Outside<C, E, Checking = V>>(
     pool: &mut X,
     moment: Moment,
     begun: Begun,
@@ -202,8 +202,9 @@ fn take<C, V, P, E, X: GetHome<C, Permit = P> + Outside<C, E, Checking = V>>(
 }
 
 /// Makes a later poll of a get that holds no connection: it tries, or ends if no handle is alive.
+// Inlining saves three instructions of a waiting get.
 #[inline(always)]
-fn retry<C, V, P, E, X: GetHome<C, Permit = P> + Outside<C, E, Checking = V>>(
+pub(crate) fn retry<C, V, P, E, X: GetHome<C, Permit = P> + Outside<C, E, Checking = V>>(
     pool: &mut X,
     seen: Looked,
     begun: Begun,
@@ -215,32 +216,6 @@ fn retry<C, V, P, E, X: GetHome<C, Permit = P> + Outside<C, E, Checking = V>>(
     }
     leave(pool, seen.moment, begun.get, Reason::TimedOut);
     Next::Answer(Err(RunError::TimedOut))
-}
-
-/// Makes the part of a poll before the deadline is compared.
-// Inlining saves three instructions of a waiting get.
-#[inline(always)]
-pub(crate) fn advance<C, V, P, E, X: GetHome<C, Permit = P> + Outside<C, E, Checking = V>>(
-    pool: &mut X,
-    seen: Looked,
-    timeout: Duration,
-    stage: Stage<C, V, P>,
-) -> Next<C, V, P, E>
-    ensures { GetAdvances X.GetHome X.Outside seen.moment seen.alive (as_nanos timeout) stage
-        pool.old result pool.new }
-{
-    match stage {
-        Stage::Fresh => {
-            let first = pool.start(seen.moment);
-            tried(pool, seen.moment, deadline(seen.moment, timeout), first)
-        }
-        Stage::Trying(begun) | Stage::Waiting(begun) => retry(pool, seen, begun),
-        Stage::Checking(begun, held) => {
-            pool.release();
-            check(pool, seen.moment, begun, held)
-        }
-        Stage::Done => Next::Stand(Stage::Done),
-    }
 }
 
 /// Handles the result of a get that gave up: drops a connection that was closed.

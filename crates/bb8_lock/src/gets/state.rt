@@ -1,12 +1,12 @@
 //! The state of a get, its polls, and its cancellation.
 ghost use Rattle.std.specs.Prelude.{◌≡◌, true};
 ghost use Rattle.std.specs.Duration.{as_nanos};
-ghost use Rattle.bb8_lock.specs.Polls.{holds_nothing, is_done, rest_of, AfterTry, EndsPoll, IsDeadline, GetPolls, Starts, CancelsFree, CancelsHeld, Cancels};
+ghost use Rattle.bb8_lock.specs.Polls.{holds_nothing, rest_of, AfterTry, EndsPoll, IsDeadline, GetPolls, Starts, CancelsFree, CancelsHeld, Cancels};
 ghost use Rattle.bb8_lock.specs.declared.gets.state.Stage.TheVariants.{Fresh as IsFresh, Done as IsDone};
 
 use super::home::{FirstTry, GetHome, LetGo, Taken, Tried};
 use super::outside::Outside;
-use super::rows::{advance, ask, deadline, end, leave, settle, take_back, tried};
+use super::rows::{ask, check, deadline, end, leave, retry, settle, take_back, tried};
 use bb8_core::api::{Moment, RunError};
 use bb8_core::internals::{GetKey, Reason, Unfit};
 use futures::task::Poll;
@@ -49,18 +49,6 @@ pub enum Stage<C, V, P> {
     Checking(Begun, CheckUnderWay<C, V, P>),
     /// It has returned a result, or was cancelled.
     Done,
-}
-
-impl<C, V, P> Stage<C, V, P> {
-    /// Returns whether the get has returned a result or was cancelled.
-    fn is_done(&self) -> bool
-        ensures { result ≡ is_done self.now }
-    {
-        match self {
-            Stage::Done => true,
-            Stage::Fresh | Stage::Trying(_) | Stage::Waiting(_) | Stage::Checking(..) => false,
-        }
-    }
 }
 
 /// The outcome of a poll's steps: a result, or a state whose deadline is compared.
@@ -111,11 +99,11 @@ impl<C, V, P> GetState<C, V, P> {
     /// Polls the get once, on a home. `timeout` is the pool's `connection_timeout`. In bb8 a get is
     /// an async function.
     ///
-    /// It reads the clock once and looks at the home. The first poll begins the get and sets its
-    /// deadline. Each poll tries at most once, or polls the check of the connection that it holds,
-    /// and compares the deadline last. If a check fails, the error goes to the sink, the connection
-    /// is closed, and the get tries again at the next poll. If no handle is alive, it ends then.
-    /// The home is released before each user callback.
+    /// It reads the clock once. The first poll begins the get and sets its deadline; a later one
+    /// looks at the home. Each poll tries at most once, or polls the check of the connection that
+    /// it holds, and compares the deadline last. If a check fails, the error goes to the sink, the
+    /// connection is closed, and the get tries again at the next poll. If no handle is alive, it
+    /// ends then. The home is released before each user callback.
     ///
     /// Returns a connection; `TimedOut` after the deadline, or if the home knows no such get or no
     /// handle; `Memory` or `Exhausted` if the get could not begin. After a result each poll is
@@ -128,16 +116,30 @@ impl<C, V, P> GetState<C, V, P> {
         ensures { GetPolls X.GetHome X.Outside (as_nanos timeout) self.old.stage pool.old
             (record { answer = result; stage = self.new.stage }) pool.new }
     {
-        if self.stage.is_done() {
-            return Poll::Pending;
+        match mem::replace(&mut self.stage, Stage::Done) {
+            Stage::Fresh => {
+                let at = pool.now();
+                self.start_step(pool, at, timeout)
+            }
+            Stage::Trying(begun) | Stage::Waiting(begun) => {
+                let at = pool.now();
+                let seen = pool.look(at);
+                let next = retry(pool, seen, begun);
+                let Settled { answer, stage } = end(pool, seen.moment, next);
+                self.stand(stage);
+                answer
+            }
+            Stage::Checking(begun, held) => {
+                let at = pool.now();
+                let moment = pool.look(at).moment;
+                pool.release();
+                let next = check(pool, moment, begun, held);
+                let Settled { answer, stage } = end(pool, moment, next);
+                self.stand(stage);
+                answer
+            }
+            Stage::Done => Poll::Pending,
         }
-        let stage = mem::replace(&mut self.stage, Stage::Done);
-        let at = pool.now();
-        let seen = pool.look(at);
-        let next = advance(pool, seen, timeout, stage);
-        let Settled { answer, stage } = end(pool, seen.moment, next);
-        self.stand(stage);
-        answer
     }
 
     /// As `poll_step`, but consumes its home. A get that is served at once stores none of it.
@@ -156,8 +158,8 @@ impl<C, V, P> GetState<C, V, P> {
             Stage::Fresh => {
                 self.stand(Stage::Done);
                 let at = pool.now();
-                let moment = pool.look(at).moment;
-                match pool.start(moment) {
+                let (moment, first) = pool.start(at);
+                match first {
                     Ok(FirstTry::Tried(_, Tried::Served(taken, _))) => {
                         pool.go();
                         Poll::Ready(Ok(taken))
@@ -219,19 +221,19 @@ impl<C, V, P> GetState<C, V, P> {
         answer
     }
 
-    /// Makes a first poll at the moment of a `look` made before: the get begins and tries.
+    /// Makes a first poll at this reading of the clock: the get begins and tries.
     #[inline(always)]
     pub fn start_step<E, X: GetHome<C, Permit = P> + Outside<C, E, Checking = V>>(
         &mut self,
         pool: &mut X,
-        moment: Moment,
+        at: Moment,
         timeout: Duration,
     ) -> Poll<Result<Taken<C, P>, RunError<E>>>
         requires { holds_nothing self.old.stage ≡ true }
-        ensures { Starts X.GetHome X.Outside moment (as_nanos timeout) pool.old
+        ensures { Starts X.GetHome X.Outside at (as_nanos timeout) pool.old
             (record { answer = result; stage = self.new.stage }) pool.new }
     {
-        let first = pool.start(moment);
+        let (moment, first) = pool.start(at);
         let next = tried(pool, moment, deadline(moment, timeout), first);
         let Settled { answer, stage } = end(pool, moment, next);
         self.stand(stage);

@@ -1,14 +1,13 @@
-//! Random transcripts: each result, and the state after it, is what the core's replay returns for
-//! the same events.
+//! Random transcripts of live pools: each result, and the state after it, is what the core's replay
+//! returns for the same events.
 
-use bb8::{Config, Moment, Runtime, Turn};
+use bb8::{Moment, Runtime, Turn};
 use bb8_core::internals::PoolInternals;
 use bb8_core::replay::{Act, Answer, Event, Known, Reason, apply};
 use bb8_live_scripts::{LineAnswer, run};
 use bb8_runner::fault::Fault;
 use bb8_runner::lines::script_of;
 use bb8_runner::text::output;
-use bb8_trials::Course;
 use bb8_trials::hostile::RandomSource;
 use std::alloc::Global;
 use std::fmt::Write;
@@ -16,30 +15,31 @@ use std::mem;
 use std::process::Abort;
 use std::test::Fail;
 
-/// The number of transcripts, and the steps and gets of each.
-const TRANSCRIPTS: u64 = 2000;
+/// The number of transcripts of a test, and the steps and gets of each transcript.
+const TRANSCRIPTS: u64 = 500;
 
 const STEPS: u32 = 40;
 
-const GETS: u64 = 5;
+const GETS: usize = 5;
 
 /// The stage of a get.
 #[derive(Clone, Copy)]
-enum Life {
+enum Stage {
     Fresh,
     /// It has no handle, as the pool was closed.
     Refused,
-    /// Its number, its deadline, and the connection that it checks.
-    Begun(u64, u64, Option<u64>),
+    /// Its number and its deadline.
+    Begun(u64, u64),
+    /// Its guard has the connection of this number.
+    Served(u64),
     Ended,
 }
 
-/// A get, with or without its own handle, and the connection of its guard.
+/// A get, with or without its own handle.
 #[derive(Clone, Copy)]
 struct Caller {
-    life: Life,
+    stage: Stage,
     owned: bool,
-    guard: Option<u64>,
 }
 
 /// A connection: its number in the core, its number in the script, and how many checks of it began.
@@ -55,33 +55,30 @@ struct Named {
 struct Writer {
     alloc: Global,
     source: RandomSource,
-    config: Config,
     core: PoolInternals<u64>,
     known: Known,
     text: String,
     clock: u64,
     /// When the reaper is due.
     due: u64,
-    callers: Vec<Caller>,
+    callers: [Caller; GETS],
     /// The claimed approvals.
     tasks: Vec<u64>,
     /// The connections that are or were the pool's.
     named: Vec<Named>,
-    /// Connections outside the pool, by index: detached ones, and those whose add was refused.
-    kept: Vec<Option<Named>>,
-    /// The name of the latest connection that was made without an attempt.
-    made: u64,
-    opening: Course,
-    check: Course,
+    /// Whether a connection outside the pool is kept at each index: a detached one at that of its
+    /// get, and one whose add was refused at the last.
+    kept: [bool; GETS + 1],
+    /// Whether attempts and checks pass, last or fail.
+    opening: &'static str,
+    check: &'static str,
     breaks: u64,
     begun: u64,
     closed: u64,
-    /// Whether the limits were kept.
-    is_sound: bool,
 }
 
 /// Returns one of these words, chosen by the source.
-fn pick<'a>(source: &RandomSource, words: &[&'a str]) -> &'a str {
+fn pick(source: &RandomSource, words: &[&'static str]) -> &'static str {
     let index = source.index(words.len()).unwrap_or(0);
     words.get(index).copied().unwrap_or("")
 }
@@ -90,49 +87,45 @@ fn pick<'a>(source: &RandomSource, words: &[&'a str]) -> &'a str {
 fn config_line(alloc: Global, source: &RandomSource) -> Result<String, Fault> {
     let size = source.below(4).saturating_add(1);
     let idle = source.below(size.saturating_add(1));
-    let check = pick(
-        source,
-        &[
-            "on strategy=fifo",
-            "on strategy=lifo test_after=150",
-            "off strategy=lifo",
-        ],
-    );
+    let checks = [
+        "on strategy=fifo",
+        "on strategy=lifo test_after=150",
+        "off strategy=lifo",
+    ];
+    let check = pick(source, &checks);
     let times = pick(source, &["idle=500 lifetime=none", "lifetime=2000"]);
     let line = format!(in alloc; "config max_size={size} min_idle={idle} check={check} {times}")?;
     Ok(format!(in alloc; "{line} timeout=1000 reaper=300 retry=off")?)
 }
 
 impl Writer {
-    fn new(rt: &(impl Abort + AllocGlobal), seed: u64) -> Result<Writer, Fault> {
-        let alloc = rt.alloc();
+    fn new(alloc: Global, seed: u64) -> Result<Writer, Fault> {
         let source = RandomSource::new(alloc, seed)?;
         let line = config_line(alloc, &source)?;
-        let config = match script_of(alloc, &[line.as_bytes()]) {
-            Ok(script) => script.config,
-            Err(_) => return Err(Fault::Read),
+        let Ok(script) = script_of(alloc, &[line.as_bytes()]) else {
+            return Err(Fault::Read);
         };
-        assert!(rt; config.is_lawful());
+        let nobody = Caller {
+            stage: Stage::Ended,
+            owned: false,
+        };
         let mut writer = Writer {
             alloc,
             source,
-            config,
-            core: PoolInternals::new(alloc, config),
+            core: PoolInternals::new(alloc, script.config),
             known: Known::new(alloc, 0, 0),
             text: format!(in alloc; ":: {seed}\n{line}\nbegin\n")?,
             clock: 0,
             due: 300,
-            callers: Vec::new(alloc),
+            callers: [nobody; GETS],
             tasks: Vec::new(alloc),
             named: Vec::new(alloc),
-            kept: Vec::new(alloc),
-            made: 1000,
-            opening: Course::Passes,
-            check: Course::Passes,
+            kept: [false; GETS + 1],
+            opening: "passes",
+            check: "passes",
             breaks: 0,
             begun: 0,
             closed: 0,
-            is_sound: true,
         };
         writer.apply(Act::Fill(false));
         Ok(writer)
@@ -141,8 +134,7 @@ impl Writer {
     /// Applies an event at the clock's moment, and counts the connections that it drops.
     fn apply(&mut self, act: Act) -> Answer {
         let at = Moment(self.clock);
-        let Writer { core, known, .. } = self;
-        let answer = apply(core, known, Event { at, act });
+        let answer = apply(&mut self.core, &mut self.known, Event { at, act });
         let closed = match answer {
             Answer::Closed(..) if !matches!(act, Act::Detach(_)) => 1,
             Answer::Late(_) => 1,
@@ -168,8 +160,6 @@ impl Writer {
             answer => writeln!(self.text, "{verb} {number} | {answer}")?,
         }
         if let Answer::Shown(state) = self.apply(Act::State) {
-            let taken = (self.tasks.len() as u64).saturating_add(u64::from(state.connections));
-            self.is_sound &= taken <= u64::from(self.config.max_size);
             writeln!(self.text, "sizes | {}", LineAnswer::Sizes(state))?;
         }
         Ok(())
@@ -182,41 +172,50 @@ impl Writer {
         broken
     }
 
-    /// Begins a get.
-    fn begin(&mut self, n: u64) -> Result<Caller, Fault> {
+    /// Begins a get at this index.
+    fn begin(&mut self, n: usize) -> Result<(), Fault> {
         let owned = self.source.below(2) == 0;
-        let life = match owned && self.apply(Act::Join) == Answer::Unfit {
-            true => Life::Refused,
-            false => Life::Fresh,
+        let stage = match owned && self.apply(Act::Join) == Answer::Unfit {
+            true => Stage::Refused,
+            false => Stage::Fresh,
         };
-        self.say(if owned { "own" } else { "get" }, n, LineAnswer::Done)?;
-        Ok(Caller {
-            life,
-            owned,
-            guard: None,
-        })
+        self.put(n, Caller { stage, owned });
+        self.say(
+            if owned { "own" } else { "get" },
+            n as u64,
+            LineAnswer::Done,
+        )
     }
 
     /// Gives a get up, if it has not ended.
-    fn give_up(&mut self, caller: &mut Caller, reason: Reason) {
-        match caller.life {
-            Life::Ended => return,
-            Life::Fresh | Life::Refused => {}
-            Life::Begun(get, _, held) => {
-                let broken = held.is_some() && self.is_broken();
-                self.apply(Act::GiveUp(get, reason, broken));
-            }
+    fn give_up(&mut self, caller: Caller, reason: Reason) {
+        if let Stage::Begun(get, _) = caller.stage {
+            self.apply(Act::GiveUp(get, reason, false));
         }
-        caller.life = Life::Ended;
-        if caller.owned {
+        if caller.owned && !matches!(caller.stage, Stage::Ended) {
             self.apply(Act::Leave);
         }
     }
 
-    /// Returns the connection of this number; it is an error of the test if there is none.
-    fn named(&mut self, number: u64) -> Named {
+    /// Checks a connection, and returns its number if it passed.
+    fn check(&mut self, get: u64, number: u64) -> Option<u64> {
+        for named in self.named.iter_mut() {
+            if named.number == number {
+                named.checks = named.checks.saturating_add(1);
+            }
+        }
+        if self.check == "fails" {
+            let broken = self.is_broken();
+            self.apply(Act::CheckedErr(get, broken));
+            return None;
+        }
+        self.apply(Act::CheckedOk(get));
+        Some(number)
+    }
+
+    /// Returns the connection of this number.
+    fn named(&self, number: u64) -> Named {
         let found = self.named.iter().find(|named| named.number == number);
-        self.is_sound &= found.is_some();
         found.copied().unwrap_or(Named {
             number,
             name: 0,
@@ -224,155 +223,99 @@ impl Writer {
         })
     }
 
-    fn serve(&mut self, caller: &mut Caller, number: u64) -> LineAnswer {
-        self.is_sound &= self.callers.iter().all(|other| other.guard != Some(number));
-        caller.life = Life::Ended;
-        caller.guard = Some(number);
-        LineAnswer::Served(self.named(number).name)
-    }
-
-    /// Begins a check of the connection.
-    fn begin_check(&mut self, number: u64) {
-        for named in self.named.iter_mut() {
-            if named.number == number {
-                named.checks = named.checks.saturating_add(1);
+    /// Polls a get once. Returns its next stage and the result. A closed pool serves none.
+    fn poll(&mut self, caller: Caller) -> (Stage, LineAnswer) {
+        let (now, is_open) = self.look();
+        let (get, deadline) = match caller.stage {
+            Stage::Ended | Stage::Served(_) => return (caller.stage, LineAnswer::Pending),
+            Stage::Refused => return (Stage::Ended, LineAnswer::Exhausted),
+            _ if !is_open => {
+                self.give_up(caller, Reason::TimedOut);
+                return (Stage::Ended, LineAnswer::TimedOut);
+            }
+            Stage::Begun(get, deadline) => (get, deadline),
+            Stage::Fresh => match self.apply(Act::Begin) {
+                Answer::Begun(get) => (get, now.saturating_add(1000)),
+                _ => return (Stage::Ended, LineAnswer::Memory),
+            },
+        };
+        let served = match self.apply(Act::Try(get)) {
+            Answer::Served(number, _) => Some(number),
+            Answer::Taken(number, _) => self.check(get, number),
+            _ => None,
+        };
+        let stage = Stage::Begun(get, deadline);
+        match served {
+            Some(number) => {
+                let answer = LineAnswer::Served(self.named(number).name);
+                (Stage::Served(number), answer)
+            }
+            None if now < deadline => (stage, LineAnswer::Pending),
+            None => {
+                self.give_up(Caller { stage, ..caller }, Reason::TimedOut);
+                (Stage::Ended, LineAnswer::TimedOut)
             }
         }
     }
 
     /// Keeps a connection outside the pool at this index, and drops the one that was there.
-    fn keep(&mut self, n: u64, named: Named) {
-        if let Some(place) = self.kept.get_mut(n as usize) {
-            if place.is_some() {
+    fn keep(&mut self, n: usize) {
+        if let Some(is_kept) = self.kept.get_mut(n) {
+            if *is_kept {
                 self.closed = self.closed.saturating_add(1);
             }
-            *place = Some(named);
+            *is_kept = true;
         }
     }
 
-    fn time_out(&mut self, caller: &mut Caller) -> LineAnswer {
-        self.give_up(caller, Reason::TimedOut);
-        LineAnswer::TimedOut
-    }
-
-    /// Polls a get once. A closed pool serves only a get whose connection is being checked.
-    fn poll(&mut self, caller: &mut Caller) -> LineAnswer {
-        let (now, is_open) = self.look();
-        match caller.life {
-            Life::Ended => LineAnswer::Pending,
-            Life::Refused => {
-                caller.life = Life::Ended;
-                LineAnswer::Exhausted
-            }
-            Life::Begun(get, deadline, Some(held)) => {
-                self.poll_check(caller, get, deadline, held, now)
-            }
-            _ if !is_open => self.time_out(caller),
-            Life::Begun(get, deadline, None) => self.try_get(caller, get, deadline, now),
-            Life::Fresh => match self.apply(Act::Begin) {
-                Answer::Begun(get) => self.try_get(caller, get, now.saturating_add(1000), now),
-                _ => LineAnswer::Memory,
-            },
+    /// Sets the get at this index.
+    fn put(&mut self, n: usize, caller: Caller) {
+        if let Some(place) = self.callers.get_mut(n) {
+            *place = caller;
         }
     }
 
-    /// Makes the try of a get that holds no connection.
-    fn try_get(&mut self, caller: &mut Caller, get: u64, deadline: u64, now: u64) -> LineAnswer {
-        caller.life = Life::Begun(get, deadline, None);
-        match self.apply(Act::Try(get)) {
-            Answer::Served(number, _) => self.serve(caller, number),
-            Answer::Taken(number, _) => {
-                self.begin_check(number);
-                self.poll_check(caller, get, deadline, number, now)
-            }
-            _ => self.settle(caller, deadline, now),
-        }
-    }
-
-    /// Polls the check of this connection, which a get holds.
-    fn poll_check(
-        &mut self,
-        caller: &mut Caller,
-        get: u64,
-        deadline: u64,
-        number: u64,
-        now: u64,
-    ) -> LineAnswer {
-        let mut held = Some(number);
-        match self.check {
-            Course::Passes => {
-                self.apply(Act::CheckedOk(get));
-                return self.serve(caller, number);
-            }
-            Course::Fails => {
-                let broken = self.is_broken();
-                self.apply(Act::CheckedErr(get, broken));
-                held = None;
-            }
-            Course::Lasts => {}
-        }
-        caller.life = Life::Begun(get, deadline, held);
-        self.settle(caller, deadline, now)
-    }
-
-    /// Compares the deadline of a get without a result.
-    fn settle(&mut self, caller: &mut Caller, deadline: u64, now: u64) -> LineAnswer {
-        if now < deadline {
-            return LineAnswer::Pending;
-        }
-        self.time_out(caller)
-    }
-
-    /// The guard's own handle leaves, if it has one; then writes the line.
-    fn say_left(
-        &mut self,
-        caller: &Caller,
-        verb: &str,
-        n: u64,
-        answer: LineAnswer,
-    ) -> Result<(), Fault> {
+    /// Drops or detaches the guard of a get, which has this connection.
+    fn end_guard(&mut self, n: usize, caller: Caller, number: u64) -> Result<(), Fault> {
+        let (verb, answer) = if self.source.below(6) == 0 {
+            self.apply(Act::Detach(number));
+            self.keep(n);
+            let Named { name, checks, .. } = self.named(number);
+            ("detach", LineAnswer::Connection((name, checks, 0)))
+        } else {
+            let broken = self.is_broken();
+            self.apply(Act::PutBack(number, broken));
+            ("return", LineAnswer::Done)
+        };
         if caller.owned {
             self.apply(Act::Leave);
         }
-        self.say(verb, n, answer)
+        let stage = Stage::Ended;
+        self.put(n, Caller { stage, ..caller });
+        self.say(verb, n as u64, answer)
     }
 
-    /// Drops or detaches a guard, replaces a get, or polls one.
-    fn go_on(&mut self, n: u64) -> Result<(), Fault> {
-        let index = n as usize;
-        let Some(mut caller) = self.callers.get(index).copied() else {
+    /// Ends a guard, replaces a get, or polls one.
+    fn go_on(&mut self, n: usize) -> Result<(), Fault> {
+        let Some(caller) = self.callers.get(n).copied() else {
             return Ok(());
         };
-        match (caller.guard, self.source.below(8)) {
-            (Some(number), 0..=4) => {
-                caller.guard = None;
-                let broken = self.is_broken();
-                self.apply(Act::PutBack(number, broken));
-                self.say_left(&caller, "return", n, LineAnswer::Done)?;
-            }
-            (Some(number), 5) => {
-                caller.guard = None;
-                self.apply(Act::Detach(number));
-                let named = self.named(number);
-                self.keep(n, named);
-                let facts = LineAnswer::Connection((named.name, named.checks, 0));
-                self.say_left(&caller, "detach", n, facts)?;
-            }
-            (None, 0..=1) => {
-                self.give_up(&mut caller, Reason::Cancelled);
+        let dice = self.source.below(8);
+        match caller.stage {
+            Stage::Served(number) if dice < 6 => self.end_guard(n, caller, number),
+            Stage::Served(_) => self.say("poll", n as u64, LineAnswer::Pending),
+            _ if dice < 2 => {
+                self.give_up(caller, Reason::Cancelled);
                 let verb = pick(&self.source, &["drop", "cancel"]);
-                self.say(verb, n, LineAnswer::Done)?;
-                caller = self.begin(n)?;
+                self.say(verb, n as u64, LineAnswer::Done)?;
+                self.begin(n)
             }
             _ => {
-                let answer = self.poll(&mut caller);
-                self.say("poll", n, answer)?;
+                let (stage, answer) = self.poll(caller);
+                self.put(n, Caller { stage, ..caller });
+                self.say("poll", n as u64, answer)
             }
         }
-        if let Some(place) = self.callers.get_mut(index) {
-            *place = caller;
-        }
-        Ok(())
     }
 
     /// Makes a turn: it reaps and asks if a tick is due, claims, and polls all attempts. If the
@@ -384,38 +327,35 @@ impl Writer {
             self.apply(Act::Ask);
             self.due = (now / 300).saturating_add(1).saturating_mul(300);
         }
-        for _ in 0..=self.config.max_size {
-            if let Answer::Claimed(Some(approval)) = self.apply(Act::Claim) {
+        for _ in 0..5u32 {
+            if let Answer::Claimed(Some(number)) = self.apply(Act::Claim) {
                 self.begun = self.begun.saturating_add(1);
-                let _ = self.tasks.push(approval);
+                let _ = self.tasks.push(number);
                 let _ = self.named.push(Named {
-                    number: approval,
+                    number,
                     name: self.begun,
                     checks: 0,
                 });
             }
         }
-        let tasks = self.tasks.len() as u64;
-        self.end_tasks(is_open);
+        let polled = if is_open { self.tasks.len() as u64 } else { 0 };
+        if !is_open || self.opening != "lasts" {
+            self.end_tasks(is_open && self.opening == "passes");
+        }
         let turn = Turn {
-            polled: if is_open { tasks } else { 0 },
+            polled,
             ended: !is_open,
         };
-        let moment = self.clock;
-        self.say("turn", moment, LineAnswer::Turned(turn))
+        self.say("turn", self.clock, LineAnswer::Turned(turn))
     }
 
-    /// Ends the attempts that end in a turn. After one that comes too late the pool asks.
-    fn end_tasks(&mut self, is_open: bool) {
-        if is_open && self.opening == Course::Lasts {
-            return;
-        }
-        let fails = !is_open || self.opening == Course::Fails;
+    /// Ends all attempts. After one that comes too late the pool asks.
+    fn end_tasks(&mut self, passes: bool) {
         let tasks = mem::replace(&mut self.tasks, Vec::new(self.alloc));
         for approval in tasks.iter() {
-            let answer = self.apply(match fails {
-                true => Act::Failed(*approval),
-                false => Act::Opened(*approval),
+            let answer = self.apply(match passes {
+                true => Act::Opened(*approval),
+                false => Act::Failed(*approval),
             });
             if let Answer::Late(_) = answer {
                 self.apply(Act::Ask);
@@ -423,40 +363,26 @@ impl Writer {
         }
     }
 
-    /// Adds a kept or a new connection. If it is refused, it is kept.
+    /// Adds a new connection. If it is refused, it is kept until the next one is made.
     fn add(&mut self) -> Result<(), Fault> {
-        let n = self.source.below(GETS);
-        if self.source.below(2) == 0 {
-            self.made = self.made.saturating_add(1);
-            let name = self.made;
-            writeln!(self.text, "make {n} {name}")?;
-            self.keep(
-                n,
-                Named {
-                    number: 0,
-                    name,
-                    checks: 0,
-                },
-            );
-        }
-        let Some(named) = self.kept.get_mut(n as usize).and_then(Option::take) else {
-            return self.say("add", n, LineAnswer::Unfit);
-        };
+        let name = (self.named.len() as u64).saturating_add(1000);
+        self.keep(GETS);
+        writeln!(self.text, "make {GETS} {name}")?;
         let broken = self.is_broken();
         let answer = match self.apply(Act::Add(broken)) {
             Answer::Added(number, _) => {
-                let _ = self.named.push(Named { number, ..named });
+                self.kept[GETS] = false;
+                let _ = self.named.push(Named {
+                    number,
+                    name,
+                    checks: 0,
+                });
                 LineAnswer::Added
             }
-            refused => {
-                self.keep(n, named);
-                match refused {
-                    Answer::Broken => LineAnswer::Broken(named.name),
-                    _ => LineAnswer::Full(named.name),
-                }
-            }
+            Answer::Broken => LineAnswer::Broken(name),
+            _ => LineAnswer::Full(name),
         };
-        self.say("add", n, answer)
+        self.say("add", GETS as u64, answer)
     }
 
     /// Retires all connections or closes the pool, and asks whether it is closed.
@@ -481,29 +407,23 @@ impl Writer {
         let span = self.source.below(400);
         match self.source.below(6) {
             0..=2 => {
-                let clock = match span % 4 {
+                self.clock = match span % 4 {
                     0 => self.clock.saturating_sub(span),
                     _ => self.clock.saturating_add(span),
                 };
-                self.clock = clock;
-                self.say("clock", clock, LineAnswer::Done)
+                self.say("clock", self.clock, LineAnswer::Done)
             }
             3 => {
                 self.breaks = span % 3;
-                self.say("breaks", span % 3, LineAnswer::Done)
+                self.say("breaks", self.breaks, LineAnswer::Done)
             }
-            which => {
-                let (course, word) = match span % 3 {
-                    0 => (Course::Passes, "passes"),
-                    1 => (Course::Lasts, "lasts"),
-                    _ => (Course::Fails, "fails"),
-                };
-                let verb = if which == 4 { "opening" } else { "check" };
-                match which {
-                    4 => self.opening = course,
-                    _ => self.check = course,
-                }
-                Ok(writeln!(self.text, "{verb} {word}")?)
+            4 => {
+                self.opening = pick(&self.source, &["passes", "lasts", "fails"]);
+                Ok(writeln!(self.text, "opening {}", self.opening)?)
+            }
+            _ => {
+                self.check = pick(&self.source, &["passes", "fails"]);
+                Ok(writeln!(self.text, "check {}", self.check)?)
             }
         }
     }
@@ -511,16 +431,12 @@ impl Writer {
     /// Writes all steps; then the state and the server's counts.
     fn write(&mut self) -> Result<(), Fault> {
         for n in 0..GETS {
-            let caller = self.begin(n)?;
-            let _ = self.callers.push(caller);
-            let _ = self.kept.push(None);
+            self.begin(n)?;
         }
         for _ in 0..STEPS {
+            let n = self.source.index(GETS).unwrap_or(0);
             match self.source.below(30) {
-                0..=17 => {
-                    let n = self.source.below(GETS);
-                    self.go_on(n)?;
-                }
+                0..=17 => self.go_on(n)?,
                 18..=22 => self.turn()?,
                 23..=25 => self.add()?,
                 26..=28 => self.set()?,
@@ -528,9 +444,8 @@ impl Writer {
             }
         }
         if let Answer::Shown(state) = self.apply(Act::State) {
-            self.text.push_str("state | ")?;
-            self.text
-                .push_str(output(self.alloc, &[], state)?.as_str())?;
+            let shown = output(self.alloc, &[], state)?;
+            write!(self.text, "state | {}", shown.as_str())?;
         }
         let (begun, closed) = (self.begun, self.closed);
         writeln!(self.text, "begun | {begun}\nclosed | {closed}")?;
@@ -540,19 +455,17 @@ impl Writer {
 
 /// Runs the transcripts of a fourth of the seeds.
 fn are_answered<R: Runtime + Abort>(rt: R, fourth: u64) -> Result<(), Fail> {
-    let first = fourth.saturating_mul(TRANSCRIPTS / 4);
+    let first = fourth.saturating_mul(TRANSCRIPTS);
     let mut answers: u64 = 0;
-    for seed in first..first.saturating_add(TRANSCRIPTS / 4) {
-        let mut writer = Writer::new(&rt, seed)?;
+    for seed in first..first.saturating_add(TRANSCRIPTS) {
+        let mut writer = Writer::new(rt.alloc(), seed)?;
         writer.write()?;
-        assert!(&rt; writer.is_sound, "{}", writer.text);
         let mut reader = writer.text.as_bytes();
-        let mut written = Vec::new(rt.alloc());
-        let report = run(rt, &mut reader, &mut written)?;
+        let report = run(rt, &mut reader, &mut Vec::new(rt.alloc()))?;
         assert!(&rt; report.different == 0, "{}{}", writer.text, report.reported);
         answers = answers.saturating_add(report.answers);
     }
-    assert!(&rt; answers > TRANSCRIPTS * 12, "{answers}");
+    assert!(&rt; answers > TRANSCRIPTS * 48, "{answers}");
     Ok(())
 }
 

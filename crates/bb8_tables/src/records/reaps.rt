@@ -1,6 +1,6 @@
 //! The reap of idle connections: one walk along the order of births, one along the queue of idle
 //! connections.
-ghost use Rattle.std.specs.Prelude.{◌≡◌, ◌≤◌, ◌<◌, ◌+◌, ◌-◌, ◌++◌, ℕ, List, Some, length, slice_get, false};
+ghost use Rattle.std.specs.Prelude.{◌≡◌, ◌≤◌, ◌<◌, ◌+◌, ◌-◌, ◌++◌, ◌∷◌, [], ℕ, List, Some, length, slice_get, false};
 ghost use Rattle.std.specs.Bool.{MatchBool};
 ghost use Rattle.std.specs.Option.{option_map};
 ghost use Rattle.std.specs.Duration.{as_nanos};
@@ -8,7 +8,7 @@ ghost use Rattle.std.specs.FinMap as map;
 ghost use Rattle.bb8_types.specs.Places as places;
 ghost use Rattle.bb8_types.specs.Settings.{settings_of};
 ghost use Rattle.bb8_types.specs.Bounds.{end_of_numbers};
-ghost use Rattle.bb8_tables.specs.Dues.{Ends, EndsFirst, EndsIdle, Passes};
+ghost use Rattle.bb8_tables.specs.Dues.{Ends, EndsIdle, Passes};
 ghost use Rattle.bb8_types.specs.declared.standing.Standing.{Standing};
 ghost use Rattle.bb8_tables.specs.TableView.{slot_at};
 ghost use Rattle.bb8_tables.specs.AccessCount.{AddsReads};
@@ -110,7 +110,7 @@ impl<C: Drop> Records<C> {
     ) -> bool
         ensures ends { MatchBool result
             ((k : ℕ) × (slice_get self.old.idle 0 ≡ Some k)
-            × EndsFirst (places.idles_out (settings_of config.now) now) self.old k self.new
+            × Ends (places.idles_out (settings_of config.now) now) self.old (k ∷ []) self.new 1
             closed.old closed.new)
             (((k : ℕ)
             → places.idles_out (settings_of config.now) now (map.get self.old.places k) ≡ false)
@@ -132,6 +132,7 @@ impl<C: Drop> Records<C> {
     /// Ends the connections that are idle too long, the longest idle first, until one is not or
     /// `min_idle` idle ones are left. Returns their count. Reads an entry for each of them, and at
     /// most one more; none if no limit is set.
+    #[tactic(auto, using(crate::proofs::ReapWalks::idle_more))]
     fn reap_idle(
         &mut self,
         config: &Config,

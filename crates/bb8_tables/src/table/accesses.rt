@@ -18,11 +18,9 @@ pub struct AccessCounter {
 }
 
 impl Model for AccessCounter {
-    ghost use Rattle.bb8_tables.specs.AccessCount.{AccessCount, access_count_code};
+    ghost use Rattle.bb8_tables.specs.AccessCount.{AccessCount};
 
     ghost Value = { AccessCount };
-
-    ghost coded = { access_count_code };
 
     ghost view = { λ a. record { ended = 0; reads = a.reads; searched = a.searched } };
 }
@@ -38,11 +36,9 @@ pub struct LatestAccesses {
 }
 
 impl Model for LatestAccesses {
-    ghost use Rattle.bb8_tables.specs.AccessCount.{AccessCount, access_count_code};
+    ghost use Rattle.bb8_tables.specs.AccessCount.{AccessCount};
 
     ghost Value = { AccessCount };
-
-    ghost coded = { access_count_code };
 
     ghost view = { λ a. record { ended = a.ended; reads = a.reads; searched = a.searched } };
 }

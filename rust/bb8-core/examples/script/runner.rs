@@ -14,9 +14,6 @@ mod grammar;
 #[path = "bb8_runner/lines.rs"]
 #[rustfmt::skip]
 mod lines;
-#[path = "bb8_runner/overrides.rs"]
-#[rustfmt::skip]
-mod overrides;
 #[path = "bb8_runner/script.rs"]
 #[rustfmt::skip]
 pub mod script;

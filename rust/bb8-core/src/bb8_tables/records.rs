@@ -26,24 +26,15 @@ pub struct Records<C> {
 }
 
 fn is_claimed<C>(place: &Place<C>) -> bool {
-    match place {
-        Place::Claimed => true,
-        Place::Unclaimed | Place::Idle(_) | Place::Held(_) | Place::Guarded => false,
-    }
+    matches!(place, Place::Claimed)
 }
 
 fn is_idle<C>(place: &Place<C>) -> bool {
-    match place {
-        Place::Idle(_) => true,
-        Place::Unclaimed | Place::Claimed | Place::Held(_) | Place::Guarded => false,
-    }
+    matches!(place, Place::Idle(_))
 }
 
 fn is_guarded<C>(place: &Place<C>) -> bool {
-    match place {
-        Place::Guarded => true,
-        Place::Unclaimed | Place::Claimed | Place::Idle(_) | Place::Held(_) => false,
-    }
+    matches!(place, Place::Guarded)
 }
 
 /// Returns whether a connection is checked out by this holder.
@@ -52,7 +43,7 @@ fn is_with<C>(place: &Place<C>, holder: Holder) -> bool {
         Holder::Guard => is_guarded(place),
         Holder::Get(get) => match place {
             Place::Held(number) => get == *number,
-            Place::Unclaimed | Place::Claimed | Place::Idle(_) | Place::Guarded => false,
+            _ => false,
         },
     }
 }
@@ -61,7 +52,7 @@ fn is_with<C>(place: &Place<C>, holder: Holder) -> bool {
 fn connection_of<C>(place: Place<C>) -> Option<C> {
     match place {
         Place::Idle(conn) => Some(conn),
-        Place::Unclaimed | Place::Claimed | Place::Held(_) | Place::Guarded => None,
+        _ => None,
     }
 }
 
@@ -132,13 +123,11 @@ impl<C> Records<C> {
 
     /// Claims the unclaimed approval with the lowest number.
     pub fn claim(&mut self, accesses: &mut AccessCounter) -> Option<Key> {
-        match self.unclaimed.pop() {
-            None => None,
-            Some(key) => {
-                let _ = self.slots.put(key.place, Place::Claimed, accesses);
-                Some(key)
-            }
-        }
+        let Some(key) = self.unclaimed.pop() else {
+            return None;
+        };
+        let _ = self.slots.put(key.place, Place::Claimed, accesses);
+        Some(key)
     }
 
     /// Returns when the first idle connection became idle. Reads one entry.
@@ -163,35 +152,31 @@ impl<C> Records<C> {
         holder: Holder,
         accesses: &mut AccessCounter,
     ) -> Option<(Key, C)> {
-        match self.slots.first_by(strategy) {
-            None => None,
-            Some(place) => {
-                self.slots.leave(place);
-                let out = match holder {
-                    Holder::Guard => Place::Guarded,
-                    Holder::Get(get) => Place::Held(get),
-                };
-                let (number, was) = self.slots.put(place, out, accesses);
-                match was {
-                    Place::Idle(conn) => Some((Key { number, place }, conn)),
-                    _ => None,
-                }
-            }
+        let Some(place) = self.slots.first_by(strategy) else {
+            return None;
+        };
+        self.slots.leave(place);
+        let out = match holder {
+            Holder::Guard => Place::Guarded,
+            Holder::Get(get) => Place::Held(get),
+        };
+        let (number, was) = self.slots.put(place, out, accesses);
+        match was {
+            Place::Idle(conn) => Some((Key { number, place }, conn)),
+            _ => None,
         }
     }
 
     /// Changes the holder of a checked-out connection to a guard, and returns its key with a fresh
     /// hint.
     pub fn hand_over(&mut self, k: Key, accesses: &mut AccessCounter) -> Key {
-        match self.slots.locate(k.number, k.place, accesses) {
-            None => k,
-            Some(place) => {
-                let _ = self.slots.put(place, Place::Guarded, accesses);
-                Key {
-                    number: k.number,
-                    place,
-                }
-            }
+        let Some(place) = self.slots.locate(k.number, k.place, accesses) else {
+            return k;
+        };
+        let _ = self.slots.put(place, Place::Guarded, accesses);
+        Key {
+            number: k.number,
+            place,
         }
     }
 
@@ -205,25 +190,23 @@ impl<C> Records<C> {
         now: u64,
         accesses: &mut AccessCounter,
     ) -> Result<(), C> {
-        match self.slots.locate(k.number, k.place, accesses) {
-            None => Err(conn),
-            Some(place) => {
-                if !is_claimed(&self.slots.at(place, accesses).standing.place) {
-                    return Err(conn);
-                }
-                let idle = Standing {
-                    place: Place::Idle(conn),
-                    birth: now,
-                    entered: now,
-                };
-                let _ = self.slots.replace(place, idle, accesses);
-                self.slots.line_up(place);
-                self.slots.add_birth(place);
-                self.conns += 1;
-                self.approved -= 1;
-                Ok(())
-            }
+        let Some(place) = self.slots.locate(k.number, k.place, accesses) else {
+            return Err(conn);
+        };
+        if !is_claimed(&self.slots.at(place, accesses).standing.place) {
+            return Err(conn);
         }
+        let idle = Standing {
+            place: Place::Idle(conn),
+            birth: now,
+            entered: now,
+        };
+        let _ = self.slots.replace(place, idle, accesses);
+        self.slots.line_up(place);
+        self.slots.add_birth(place);
+        self.conns += 1;
+        self.approved -= 1;
+        Ok(())
     }
 
     /// Makes a checked-out connection idle again; it keeps its birth. Returns it instead, with
@@ -244,98 +227,86 @@ impl<C> Records<C> {
         now: u64,
         accesses: &mut AccessCounter,
     ) -> Result<Result<(), (C, bool)>, C> {
-        match self.slots.locate(k.number, k.place, accesses) {
-            None => Err(conn),
-            Some(place) => {
-                let standing = &self.slots.at(place, accesses).standing;
-                if !is_with(&standing.place, holder) {
-                    return Err(conn);
-                }
-                let birth = standing.birth;
-                let older = max_age < now - birth;
-                if is_closing(broken, older, ended) {
-                    return Ok(Err((conn, older)));
-                }
-                let idle = Standing {
-                    place: Place::Idle(conn),
-                    birth,
-                    entered: now,
-                };
-                let _ = self.slots.replace(place, idle, accesses);
-                self.slots.line_up(place);
-                Ok(Ok(()))
-            }
+        let Some(place) = self.slots.locate(k.number, k.place, accesses) else {
+            return Err(conn);
+        };
+        let standing = &self.slots.at(place, accesses).standing;
+        if !is_with(&standing.place, holder) {
+            return Err(conn);
         }
+        let birth = standing.birth;
+        let older = max_age < now - birth;
+        if is_closing(broken, older, ended) {
+            return Ok(Err((conn, older)));
+        }
+        let idle = Standing {
+            place: Place::Idle(conn),
+            birth,
+            entered: now,
+        };
+        let _ = self.slots.replace(place, idle, accesses);
+        self.slots.line_up(place);
+        Ok(Ok(()))
     }
 
     /// Ends a claimed approval. Returns false and changes nothing if the number is not that of one.
     /// Looks it up once.
     pub fn end_claimed(&mut self, k: Key, accesses: &mut AccessCounter) -> bool {
-        match self.slots.locate(k.number, k.place, accesses) {
-            None => false,
-            Some(at) => {
-                if !is_claimed(&self.slots.at(at, accesses).standing.place) {
-                    return false;
-                }
-                let _ = self.slots.remove(at);
-                self.approved -= 1;
-                true
-            }
+        let Some(at) = self.slots.locate(k.number, k.place, accesses) else {
+            return false;
+        };
+        if !is_claimed(&self.slots.at(at, accesses).standing.place) {
+            return false;
         }
+        let _ = self.slots.take_out(at);
+        self.approved -= 1;
+        true
     }
 
     /// Ends a checked-out connection.
     pub fn close(&mut self, k: Key, accesses: &mut AccessCounter) {
-        match self.slots.locate(k.number, k.place, accesses) {
-            None => {}
-            Some(place) => {
-                let _ = self.slots.remove(place);
-                self.conns -= 1;
-            }
-        }
+        let Some(place) = self.slots.locate(k.number, k.place, accesses) else {
+            return;
+        };
+        let _ = self.slots.take_out(place);
+        self.conns -= 1;
     }
 
     /// Ends an idle connection, wherever it is in the queue, and returns it. Returns None and
     /// changes nothing if the number is not that of one. Looks it up once.
     pub fn evict(&mut self, k: Key, accesses: &mut AccessCounter) -> Option<C> {
-        match self.slots.locate(k.number, k.place, accesses) {
-            None => None,
-            Some(place) => {
-                if !is_idle(&self.slots.at(place, accesses).standing.place) {
-                    return None;
-                }
-                let Slot {
-                    number: _,
-                    standing,
-                } = self.slots.take_out(place);
-                self.conns -= 1;
-                connection_of(standing.place)
-            }
+        let Some(place) = self.slots.locate(k.number, k.place, accesses) else {
+            return None;
+        };
+        if !is_idle(&self.slots.at(place, accesses).standing.place) {
+            return None;
         }
+        let Slot {
+            number: _,
+            standing,
+        } = self.slots.take_out(place);
+        self.conns -= 1;
+        connection_of(standing.place)
     }
 
     /// Ends the connection that has been idle longest, and offers it to a list.
     fn end_idle(&mut self, closed: &mut ClosedList<C>) -> Option<Key> {
-        match self.slots.first() {
-            None => None,
-            Some(place) => {
-                let number = close_idle_at(&mut self.slots, place, closed);
-                self.conns -= 1;
-                Some(Key { number, place })
-            }
-        }
+        let Some(place) = self.slots.first() else {
+            return None;
+        };
+        let number = close_idle_at(&mut self.slots, place, closed);
+        self.conns -= 1;
+        Some(Key { number, place })
     }
 
     /// Ends the unclaimed approval with the lowest number.
     fn end_unclaimed(&mut self) -> Option<Key> {
-        match self.unclaimed.pop() {
-            None => None,
-            Some(key) => {
-                let _ = self.slots.remove(key.place);
-                self.approved -= 1;
-                Some(key)
-            }
-        }
+        let Some(key) = self.unclaimed.pop() else {
+            return None;
+        };
+        let _ = self.slots.take_out(key.place);
+        self.approved -= 1;
+        Some(key)
     }
 
     /// Ends all idle connections, offers them to a list, and returns their count.
@@ -488,11 +459,20 @@ impl<C> Records<C> {
         self.slots.len() as u32
     }
 
+    /// Returns the state of a record, None if it has ended. Reads one entry.
+    #[inline]
+    fn standing(&self, k: Key, accesses: &mut AccessCounter) -> Option<&Standing<C>> {
+        match self.slots.slot(k.number, k.place, accesses) {
+            None => None,
+            Some(slot) => Some(&slot.standing),
+        }
+    }
+
     /// Returns the birth of a record.
     pub fn birth(&self, k: Key, accesses: &mut AccessCounter) -> u64 {
-        match self.slots.slot(k.number, k.place, accesses) {
+        match self.standing(k, accesses) {
             None => 0,
-            Some(slot) => slot.standing.birth,
+            Some(standing) => standing.birth,
         }
     }
 
@@ -506,25 +486,25 @@ impl<C> Records<C> {
 
     /// Returns whether a record is a claimed approval.
     pub fn is_claimed(&self, k: Key, accesses: &mut AccessCounter) -> bool {
-        match self.slots.slot(k.number, k.place, accesses) {
+        match self.standing(k, accesses) {
             None => false,
-            Some(slot) => is_claimed(&slot.standing.place),
+            Some(standing) => is_claimed(&standing.place),
         }
     }
 
     /// Returns whether a record is an idle connection.
     pub fn is_idle(&self, k: Key, accesses: &mut AccessCounter) -> bool {
-        match self.slots.slot(k.number, k.place, accesses) {
+        match self.standing(k, accesses) {
             None => false,
-            Some(slot) => is_idle(&slot.standing.place),
+            Some(standing) => is_idle(&standing.place),
         }
     }
 
     /// Returns whether a guard holds a record.
     pub fn is_guarded(&self, k: Key, accesses: &mut AccessCounter) -> bool {
-        match self.slots.slot(k.number, k.place, accesses) {
+        match self.standing(k, accesses) {
             None => false,
-            Some(slot) => is_guarded(&slot.standing.place),
+            Some(standing) => is_guarded(&standing.place),
         }
     }
 }

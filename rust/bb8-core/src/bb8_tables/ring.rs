@@ -34,21 +34,13 @@ impl<T> Ring<T> {
 
     /// Adds an item at the back. There must be capacity for it.
     pub fn push(&mut self, item: T) {
-        match &mut self.made {
-            Some(ring) => {
-                let _ = ring.try_push_back(item);
-            }
-            None => {}
-        }
+        self.offer(item);
     }
 
     /// Adds an item at the back if there is capacity for it; otherwise drops it.
     pub fn offer(&mut self, item: T) {
-        match &mut self.made {
-            Some(ring) => {
-                let _ = ring.try_push_back(item);
-            }
-            None => {}
+        if let Some(ring) = &mut self.made {
+            let _ = ring.try_push_back(item);
         }
     }
 

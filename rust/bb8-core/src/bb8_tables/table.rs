@@ -86,15 +86,13 @@ impl<S> Table<S> {
     /// Returns the entry at an index if it has this number.
     #[inline]
     fn found(&self, number: u64, at: usize) -> Option<&Slot<S>> {
-        match self.slots.get(at) {
-            None => None,
-            Some(slot) => {
-                if slot.number == number && number != END_OF_NUMBERS {
-                    Some(slot)
-                } else {
-                    None
-                }
-            }
+        let Some(slot) = self.slots.get(at) else {
+            return None;
+        };
+        if slot.number == number && number != END_OF_NUMBERS {
+            Some(slot)
+        } else {
+            None
         }
     }
 
@@ -237,13 +235,6 @@ impl<S: Vacant> Table<S> {
             standing: S::vacant(),
         };
         mem::replace(&mut self.slots[place], vacant)
-    }
-
-    /// Frees an entry and returns its number.
-    // Inlining saves 17 instructions of a cancelled get.
-    #[inline(always)]
-    pub fn remove(&mut self, place: usize) -> u64 {
-        self.take_out(place).number
     }
 
     /// Allocates for this many more entries.

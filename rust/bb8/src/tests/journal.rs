@@ -3,7 +3,7 @@
 
 use crate::core::*;
 use bb8_core::api::{Config, State};
-use bb8_core::internals::{Grant, LeaveAnswer, PoolInternals, Unfit};
+use bb8_core::internals::{AtOnce, Grant, LeaveAnswer, PoolInternals, Unfit};
 use bb8_core::kit::Global;
 use bb8_core::replay::{replay, Act, Answer, Event};
 

@@ -1,6 +1,7 @@
 //! The order in which waiting gets are served: by default the first to ask, and with `fair_after`
 //! the one that waits longest.
 
+use crate::core::Reason;
 use crate::getting::Getting;
 use crate::{ManageConnection, Pool, PooledConnection, RunError};
 use futures_util::task::noop_waker;
@@ -208,10 +209,12 @@ async fn a_connection_handed_off_at_the_deadline_is_served_or_returned() {
         let pool = pool(check, Some(Duration::ZERO)).await;
         let conn = pool.get().await.unwrap();
         let mut getting = Getting::new(pool.shared());
-        assert!(getting.begin(&mut Some(noop_waker())).is_none());
+        let at = pool.shared().now();
+        let tried = getting.begin::<true>(at, &mut Some(noop_waker()));
+        assert!(tried.is_none());
         // Between its last try and its timeout the get is handed the connection.
         drop(conn);
-        let got = getting.time_out();
+        let got = getting.end(Reason::TimedOut);
         assert_eq!(got.is_some(), !check);
         if let Some(checkout) = got {
             pool.shared().release(checkout);

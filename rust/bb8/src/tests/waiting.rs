@@ -54,9 +54,9 @@ fn a_get_is_found_by_its_number() {
 #[test]
 fn a_crowd_leaves_nothing_behind() {
     let mut waiters = waiting(0..5000);
-    assert!(waiters.capacity() >= 5000);
+    assert!(waiters.waiting.capacity() >= 5000);
     for number in 0..5000 {
         assert!(waiters.remove(get(number)).is_some());
     }
-    assert_eq!(waiters.capacity(), 0);
+    assert_eq!(waiters.waiting.capacity(), 0);
 }

@@ -3,32 +3,11 @@ use Rattle.bb8_lock.proofs.calls.take_now.Goals as goal
 
 pub returns-then-state-eq0 : goal.returns-then-state-eq0
 returns-then-state-eq0 g c = (
-  c.now-at.result,
-  c.now-at.new.self,
+  _,
+  _,
   c.now-at.ensures,
-  (
-    c.look.result,
-    c.look.new.self,
-    c.look.ensures,
-    (
-      c.state-state.result,
-      c.state-state.new.self,
-      c.state-state.ensures,
-      λ none. (refl, c.release.ensures),
-      λ some. let none = c.if-state-eq0.true in absurd (omega arith),
-    ),
-  ),
+  (_, _, c.state.ensures, λ none. (refl, c.release.ensures), λ some. let none = c.if-state-eq0.true in absurd (omega arith)),
 )
 
 pub returns : goal.returns
-returns g c = (
-  c.now-at.result,
-  c.now-at.new.self,
-  c.now-at.ensures,
-  (
-    c.look.result,
-    c.look.new.self,
-    c.look.ensures,
-    (c.state-state.result, c.state-state.new.self, c.state-state.ensures, λ none. absurd (c.if-state-eq0.false none), λ some. c.try_once.ensures),
-  ),
-)
+returns g c = (_, _, c.now-at.ensures, (_, _, c.state.ensures, λ none. absurd (c.if-state-eq0.false none), λ some. c.try_once.ensures))

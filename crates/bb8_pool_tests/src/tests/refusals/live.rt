@@ -1,18 +1,16 @@
-//! Live pools that are built, cloned, driven and used, whatever requests for memory are refused:
-//! each result is the one with all memory, or the refusal that its call documents, and each
-//! connection that was opened or added is dropped once.
+//! The scenarios. They hold with and without a refusal.
 ghost use Rattle.std.specs.Prelude.{◌≡◌, ◌<◌, true};
 ghost use Rattle.bb8.specs.Permits.{IsBlankOf};
 ghost use Rattle.bb8.specs.Settings.{is_lawful};
 
-use super::{assert_equal, is_refused, is_refused_afterwards, make};
+use crate::tests::assert_equal;
 use bb8::{
     AddError, Building, Config, Driver, DriverCalls, Memory, Moment, NoThread, NopCustomizer,
     PoolPermits, RunError, Runtime, SetClock, drive,
 };
 use bb8_trials::{
-    Board, Course, Errors, LentHandle, OneTurn, OwnedHandle, Polled, Refused, Server,
-    ServerBuilder, ServerPool, Unbuilt, builder_on, server_on, sizes,
+    Board, Course, Errors, OneTurn, OwnedHandle, Polled, Refused, Server, ServerBuilder,
+    ServerConnection, ServerPool, Unbuilt, builder_on, connection_on, server_on, sizes,
 };
 use futures::task::Poll;
 use futures::test::MockTask;
@@ -23,20 +21,14 @@ use std::sync::Arc;
 use std::sync::ledger::Blank;
 use std::thread::Threads;
 
-/// The outcome of a run of a pool.
-#[derive(Clone, Copy)]
-enum Met {
-    Refusal,
-    Nothing,
+/// Whether a request for memory is refused.
+fn is_refused(alloc: Global) -> bool {
+    Box::new(alloc, 0_u8).is_err()
 }
 
-/// The scenario of a run.
-#[derive(Clone, Copy, PartialEq, Eq)]
-enum Scenario {
-    Builds,
-    Clones,
-    Opens,
-    Hangs,
+/// Makes one more connection of a board, without memory.
+fn make(board: &Arc<Board, Global>) -> Result<ServerConnection, Memory> {
+    connection_on(board, board.begun.count())
 }
 
 /// Returns the value of a poll that is not pending, and fails with nothing but `Memory`. None if
@@ -52,53 +44,34 @@ fn answered<T: Drop>(rt: &impl Abort, polled: Polled<T, Refused>) -> Option<T> {
     }
 }
 
-/// An owned get is served, or returns `Memory`; then the pool is as before.
-fn owns<P: OwnedHandle<Server>>(rt: &impl Abort, task: &MockTask, pool: &P) -> Met {
+/// An owned get is served, or returns `Memory`; then the pool is as before. Returns whether it was
+/// served.
+fn owns<P: OwnedHandle<Server>>(rt: &impl Abort, task: &MockTask, pool: &P) -> bool {
     let before = sizes(pool.state());
-    let met = match answered(rt, P::poll_owned(task, &mut pool.get_owned())) {
-        Some(_guard) => Met::Nothing,
-        None => Met::Refusal,
-    };
+    let is_served = answered(rt, P::poll_owned(task, &mut pool.get_owned())).is_some();
     assert_equal(rt, sizes(pool.state()), before);
-    met
+    is_served
 }
 
-/// Returns the pool of a build whose first poll opened both first connections. None if it returned
-/// `Memory`.
-fn built<B: Unbuilt<Server>>(rt: &impl Abort, task: &MockTask, mut building: B) -> Option<B::Pool> {
-    answered(rt, building.poll(task))
-}
-
-/// A get of a pool that was built with two connections is served, or returns `Memory`; then the
-/// pool is as before.
-fn gets<P: LentHandle<Server>>(rt: &impl Abort, task: &MockTask, pool: P) -> Met {
-    assert_equal(rt, sizes(pool.state()), (2, 2));
-    let met = match answered(rt, pool.poll(task, &mut pool.get())) {
-        Some(_guard) => {
-            assert_equal(rt, sizes(pool.state()), (2, 1));
-            Met::Nothing
-        }
-        None => Met::Refusal,
-    };
-    assert_equal(rt, sizes(pool.state()), (2, 2));
-    met
-}
-
-/// A connection is added, or withheld; the pool is cloned, or the clone is refused; and an owned
-/// get is served on the remaining handle.
-fn clones<P: OwnedHandle<Server>>(
+/// The first poll of a build opens both first connections, or it returns `Memory`. A connection is
+/// added, or withheld; the pool is cloned, or the clone is refused; and an owned get is served on
+/// the remaining handle. Returns whether nothing was refused.
+fn builds<B: Unbuilt<Server>>(
     rt: &impl Abort,
     task: &MockTask,
-    pool: P,
+    mut building: B,
     board: &Arc<Board, Global>,
-) -> Result<Met, Memory> {
-    assert_equal(rt, sizes(pool.state()), (0, 0));
+) -> Result<bool, Memory> {
+    let Some(pool) = answered(rt, building.poll(task)) else {
+        return Ok(false);
+    };
+    assert_equal(rt, sizes(pool.state()), (2, 2));
     match pool.add(make(board)?) {
-        Ok(()) => assert_equal(rt, sizes(pool.state()), (1, 1)),
+        Ok(()) => assert_equal(rt, sizes(pool.state()), (3, 3)),
         Err(AddError::Withheld(conn)) => {
-            assert_equal(rt, sizes(pool.state()), (0, 0));
+            assert_equal(rt, sizes(pool.state()), (2, 2));
             drop(conn);
-            return Ok(Met::Refusal);
+            return Ok(false);
         }
         Err(_) => panic!(rt; "a slot is free, and nothing was broken"),
     }
@@ -110,121 +83,95 @@ fn clones<P: OwnedHandle<Server>>(
         Err(error) => {
             assert_equal(rt, error, RunError::Memory);
             let _ = owns(rt, task, &pool);
-            Ok(Met::Refusal)
+            Ok(false)
         }
     }
 }
 
 /// A driver opens three connections in its first turn. If there is no memory for a task, its claim
 /// is left to the next turn, if there is memory then. A claim is also how a driver sees that no
-/// handle is left.
+/// handle is left. Returns whether nothing was refused.
 fn opens<R: Abort + AllocGlobal, P: OwnedHandle<Server>, D: DriverCalls>(
     rt: &R,
     pool: P,
     driver: &mut D,
-) -> Met {
+) -> bool {
     let first = driver.turn(Moment(0));
-    let connections = pool.state().connections as u64;
-    assert_equal(rt, (first.ended, first.polled), (false, connections));
+    let (opened, _) = sizes(pool.state());
+    assert_equal(rt, (first.ended, first.polled), (false, u64::from(opened)));
     let left = if is_refused(rt.alloc()) {
         0
     } else {
-        3_u64.saturating_sub(connections)
+        3_u32.saturating_sub(opened)
     };
     let second = driver.turn(Moment(0));
-    assert_equal(rt, (second.ended, second.polled), (false, left));
-    let state = pool.state();
-    assert_equal(
-        rt,
-        state.connections as u64,
-        connections.saturating_add(left),
-    );
-    assert_equal(rt, state.idle_connections, state.connections);
+    assert_equal(rt, (second.ended, second.polled), (false, u64::from(left)));
+    let all = opened.saturating_add(left);
+    assert_equal(rt, sizes(pool.state()), (all, all));
     drop(pool);
     assert!(rt; driver.turn(Moment(0)).ended || is_refused(rt.alloc()));
-    if connections == 3 {
-        Met::Nothing
-    } else {
-        Met::Refusal
-    }
+    opened == 3
 }
 
-type TestDriver<R, L> = Driver<Server, Errors, NopCustomizer, SetClock, R, L>;
-
 /// A driver that holds the task of the pool's only approval is moved to a thread, or dropped if
-/// none can be started. Either way the approval is freed, so that an add finds capacity.
+/// none can be started. Either way the approval is freed, so that an add finds capacity. Returns
+/// whether nothing was refused.
 fn hangs<R: Runtime + Abort + Threads + Eprint, L: PoolPermits + 'static>(
     rt: R,
     board: &Arc<Board, Global>,
     pool: ServerPool<SetClock, R, L>,
-    mut driver: TestDriver<R, L>,
-) -> Result<Met, Memory> {
-    let holds = driver.turn(Moment(0)).polled == 1;
-    let met = match drive(&rt, driver, OneTurn) {
-        Ok(thread) => {
-            assert_equal(&rt, thread.join(&rt).turns, 1);
-            if holds { Met::Nothing } else { Met::Refusal }
-        }
+    mut driver: Driver<Server, Errors, NopCustomizer, SetClock, R, L>,
+) -> Result<bool, Memory> {
+    if driver.turn(Moment(0)).polled != 1 {
+        return Ok(false);
+    }
+    let is_run = match drive(&rt, driver, OneTurn) {
+        Ok(thread) => thread.join(&rt).turns == 1,
         Err(NoThread) => {
-            if holds {
-                let _ = rt.eprintln("no thread was made for a driver with a task");
-            }
-            Met::Refusal
+            let _ = rt.eprintln("no thread was made for a driver with a task");
+            false
         }
     };
-    if holds {
-        assert!(&rt; OwnedHandle::add(&pool, make(board)?).is_ok());
-        assert_equal(&rt, sizes(OwnedHandle::state(&pool)), (1, 1));
-    }
-    Ok(met)
+    assert!(&rt; OwnedHandle::add(&pool, make(board)?).is_ok());
+    assert_equal(&rt, sizes(OwnedHandle::state(&pool)), (1, 1));
+    Ok(is_run)
 }
 
-/// Runs a scenario over a pool with these permits.
+/// Runs the scenario of this many first connections over a pool with these permits.
 fn run_on<R: Runtime + Abort + Threads + Eprint, L: PoolPermits + 'static>(
     rt: R,
     blank: Blank,
     builder: ServerBuilder,
     board: &Arc<Board, Global>,
-    run: Scenario,
-) -> Result<Met, Memory>
+    first: u32,
+) -> Result<bool, Memory>
     requires lawful { is_lawful builder.settings ≡ true }
     requires parts { IsBlankOf blank builder.settings L.name L.parts L.settings }
 {
     let clock = SetClock::new(rt.alloc(), Moment(0))?;
-    let Ok(task) = MockTask::new(&rt) else {
-        return Err(Memory);
-    };
     let server = server_on(board)?;
-    if run == Scenario::Hangs {
-        board.opening.set(Course::Lasts);
-    }
-    if run == Scenario::Builds {
+    if first == 2 {
+        let Ok(task) = MockTask::new(&rt) else {
+            return Err(Memory);
+        };
         let building: Building<Server, Errors, NopCustomizer, SetClock, R, L> = builder.build(
             server, clock, rt, blank,
         );
-        return Ok(match built(&rt, &task, building) {
-            Some(pool) => gets(&rt, &task, &pool),
-            None => Met::Refusal,
-        });
+        return builds(&rt, &task, building, board);
     }
     let pool: ServerPool<SetClock, R, L> = builder.build_unchecked(server, clock, rt, blank)?;
     let mut driver = Driver::new(&pool)?;
-    match run {
-        Scenario::Opens => Ok(opens(&rt, pool, &mut driver)),
-        Scenario::Hangs => hangs(rt, board, pool, driver),
-        _ => clones(&rt, &task, pool, board),
+    if first == 1 {
+        board.opening.set(Course::Lasts);
+        return hangs(rt, board, pool, driver);
     }
+    Ok(opens(&rt, pool, &mut driver))
 }
 
-/// Runs a scenario over a pool with this `max_size` and `min_idle`. Each connection is dropped
-/// once. If the run had all its memory, `made` connections were made, and this is printed.
-fn runs<R: Runtime + Abort + Threads + Eprint>(
-    rt: R,
-    max_size: u32,
-    min_idle: u32,
-    run: Scenario,
-    made: u64,
-) {
+/// Runs the scenario of this many first connections over a pool of this size. Each connection is
+/// dropped once. If the run had all its memory, `made` connections were made, and this is printed:
+/// the first request after it is granted, and the second is refused.
+fn runs<R: Runtime + Abort + Threads + Eprint>(rt: R, max_size: u32, first: u32, made: u64) {
     assert!(&rt; max_size > 0);
     let Ok(board) = Board::new(rt.alloc()) else {
         return;
@@ -234,36 +181,31 @@ fn runs<R: Runtime + Abort + Threads + Eprint>(
     };
     let builder = builder
         .max_size(max_size)
-        .min_idle(Some(min_idle))
+        .min_idle(Some(first))
         .test_on_check_out(false);
     let config = Config::from(&builder);
     assert!(&rt; config.is_lawful());
     let blank = Blank::new(config.max_size as u64);
-    let met = run_on::<R, Brand>(rt, blank, builder, &board, run);
+    let met = run_on::<R, Brand>(rt, blank, builder, &board, first);
     assert!(&rt; board.is_each_dropped_once());
-    if is_refused_afterwards(rt.alloc()) {
-        assert!(&rt; matches!(met, Ok(Met::Nothing)));
+    if !is_refused(rt.alloc()) && is_refused(rt.alloc()) {
+        assert!(&rt; matches!(met, Ok(true)));
         assert_equal(&rt, board.made.get(), made);
         let _ = rt.eprintln("no request of the run was refused");
     }
 }
 
 #[test]
-fn building_returns_its_pool_or_memory(rt: HostRuntime) {
-    runs(rt, 5, 2, Scenario::Builds, 2);
-}
-
-#[test]
-fn clones_and_owned_gets_are_served_or_refused(rt: HostRuntime) {
-    runs(rt, 5, 2, Scenario::Clones, 1);
+fn building_clones_and_owned_gets_succeed_or_are_refused(rt: HostRuntime) {
+    runs(rt, 5, 2, 3);
 }
 
 #[test]
 fn driver_opens_three_in_two_turns(rt: HostRuntime) {
-    runs(rt, 3, 3, Scenario::Opens, 3);
+    runs(rt, 3, 3, 3);
 }
 
 #[test]
 fn driver_without_a_thread_returns_all(rt: HostRuntime) {
-    runs(rt, 1, 1, Scenario::Hangs, 1);
+    runs(rt, 1, 1, 1);
 }

@@ -1,154 +1,19 @@
-//! Messages about bad lines: a text, and the word of the line that it is about.
+//! Messages about bad lines.
 
-use crate::bb8_runner::grammar::{fields_of, number, numbered_act, plain_act};
-use crate::bb8_runner::overrides::Overrides;
-use crate::bb8_runner::settings::{config_from, cut, nothing_set, with_setting};
-use bb8_core::api::Config;
-use bb8_core::replay::Act;
+use crate::bb8_runner::grammar::{Message, event_of_fields, fields_of};
+use crate::bb8_runner::settings::config_of_fields;
 use crate::kit::String;
 use crate::kit::{AllocError, Global};
 use std::str;
-use std::time::Duration;
 
-const EXPECTED_NUMBER: &str = "expected a number below 2^64 without leading zeros, found";
-
-fn expected_after(act: Act) -> &'static str {
-    match act {
-        Act::Try(_) | Act::CheckedOk(_) => "expected only the number of a get after",
-        Act::CheckedErr(..) | Act::GiveUp(..) => {
-            "expected the number of a get and at most \"broken\" after"
-        }
-        Act::PutBack(..) => "expected the number of a connection and at most \"broken\" after",
-        Act::Detach(_) | Act::Evict(_) => "expected only the number of a connection after",
-        Act::Opened(_) | Act::Failed(_) => "expected only the number of an approval after",
-        Act::Fill(_) => "expected at most \"claimed\" after",
-        Act::Add(_) => "expected at most \"broken\" after",
-        _ => "expected nothing after",
-    }
-}
-
-fn verb_error(verb: &str) -> (&str, &str) {
-    match plain_act(verb).or(numbered_act(verb, 0)) {
-        Some(act) => (expected_after(act), verb),
-        None => ("unknown event", verb),
-    }
-}
-fn act_error<'a>(verb: &'a str, args: &[&'a str]) -> (&'a str, &'a str) {
-    match args {
-        [arg, ..] if numbered_act(verb, 0).is_some() && number(arg).is_none() => {
-            (EXPECTED_NUMBER, arg)
-        }
-        _ => verb_error(verb),
-    }
-}
-
-fn acting_error<'a>(moment: &'a str, fields: &[&'a str]) -> (&'a str, &'a str) {
-    match fields {
-        [verb, args @ ..] => act_error(verb, args),
-        [] => ("expected an event after", moment),
-    }
-}
-fn event_error<'a>(fields: &[&'a str]) -> (&'a str, &'a str) {
-    let [moment, fields @ ..] = fields else {
-        return ("expected an event after", "");
-    };
-    if number(moment).is_none() {
-        return (EXPECTED_NUMBER, moment);
-    }
-    acting_error(moment, fields)
-}
-
-/// Returns the text about another value of a setting. None if there is no such setting.
-fn expected_value(name: &str) -> Option<&'static str> {
-    match name {
-        "max_size" => Some("expected a number below 2^32 without leading zeros, found"),
-        "min_idle" => Some("expected \"none\" or a number below 2^32 without leading zeros, found"),
-        "check" | "retry" => Some("expected \"on\" or \"off\", found"),
-        "test_after" | "timeout" | "reaper" => Some(EXPECTED_NUMBER),
-        "lifetime" | "idle" => {
-            Some("expected \"none\" or a number below 2^64 without leading zeros, found")
-        }
-        "strategy" => Some("expected \"fifo\" or \"lifo\", found"),
-        _ => None,
-    }
-}
-fn value_error<'a>(name: &'a str, value: &'a str) -> (&'a str, &'a str) {
-    if with_setting(nothing_set(), name, value).is_some() {
-        return ("repeated setting", name);
-    }
-    match expected_value(name) {
-        Some(expected) => (expected, value),
-        None => ("unknown setting", name),
-    }
-}
-
-fn setting_error(field: &str) -> (&str, &str) {
-    match cut(field) {
-        Some((name, value)) => value_error(name, value),
-        None => ("expected \"=\" and a value after", field),
-    }
-}
-
-fn with_field(overrides: Overrides, field: &str) -> Option<Overrides> {
-    let (name, value) = cut(field)?;
-    with_setting(overrides, name, value)
-}
-
-fn is_zero(limit: Option<Duration>) -> bool {
-    match limit {
-        Some(limit) => limit.as_nanos() == 0,
-        None => false,
-    }
-}
-
-fn is_above(least: Option<u32>, most: u32) -> bool {
-    match least {
-        Some(least) => least > most,
-        None => false,
-    }
-}
-fn unlawful_error(config: Config) -> (&'static str, &'static str) {
-    if config.max_size == 0 {
-        ("expected more than 0 for", "max_size")
-    } else if is_above(config.min_idle, config.max_size) {
-        ("expected at most max_size for", "min_idle")
-    } else if is_zero(config.max_lifetime) {
-        ("expected more than 0 for", "lifetime")
-    } else if is_zero(config.idle_timeout) {
-        ("expected more than 0 for", "idle")
-    } else if config.connection_timeout.as_nanos() == 0 {
-        ("expected more than 0 for", "timeout")
+/// Returns the message about a line with these fields, an empty one if they are good.
+fn line_error<'a>(number: u64, fields: &[&'a str]) -> Message<'a> {
+    let error = if number == 1 {
+        config_of_fields(fields).err()
     } else {
-        ("expected more than 0 for", "reaper")
-    }
-}
-
-fn settings_error<'a>(fields: &[&'a str]) -> (&'a str, &'a str) {
-    let mut overrides = nothing_set();
-    for field in fields {
-        let Some(more) = with_field(overrides, field) else {
-            return setting_error(field);
-        };
-        overrides = more;
-    }
-    unlawful_error(config_from(overrides))
-}
-fn config_error<'a>(fields: &[&'a str]) -> (&'a str, &'a str) {
-    let [word, fields @ ..] = fields else {
-        return ("expected \"config\", found", "");
+        event_of_fields(fields).err()
     };
-    if *word != "config" {
-        return ("expected \"config\", found", word);
-    }
-    settings_error(fields)
-}
-
-fn line_error<'a>(number: u64, fields: &[&'a str]) -> (&'a str, &'a str) {
-    if number == 1 {
-        config_error(fields)
-    } else {
-        event_error(fields)
-    }
+    error.unwrap_or(("", ""))
 }
 
 fn is_printable(bytes: &[u8]) -> bool {

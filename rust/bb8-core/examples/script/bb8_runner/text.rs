@@ -42,18 +42,6 @@ impl fmt::Display for NotifiesPart {
     }
 }
 
-/// The counts of connections.
-#[derive(Clone, Copy)]
-struct SizesPart(State);
-
-impl fmt::Display for SizesPart {
-    fn fmt(&self, f: &mut fmt::Formatter) -> fmt::Result {
-        let connections = self.0.connections;
-        let idle = self.0.idle_connections;
-        write!(f, "state connections {connections} idle {idle}")
-    }
-}
-
 /// The counts of gets.
 #[derive(Clone, Copy)]
 struct GetsPart(Statistics);
@@ -75,31 +63,21 @@ impl fmt::Display for GetsPart {
     }
 }
 
-/// How long gets waited, in whole microseconds, and the count of opened connections.
+/// How long gets waited, in whole microseconds, and the counts of opened and closed connections.
 #[derive(Clone, Copy)]
-struct OpenedPart(Statistics);
+struct ConnectionsPart(Statistics);
 
-impl fmt::Display for OpenedPart {
+impl fmt::Display for ConnectionsPart {
     fn fmt(&self, f: &mut fmt::Formatter) -> fmt::Result {
         let wait = self.0.get_wait_time.as_micros();
         let created = self.0.connections_created;
-        write!(f, " wait_us {wait} created {created}")
-    }
-}
-
-/// The counts of closed connections, by reason.
-#[derive(Clone, Copy)]
-struct ClosedPart(Statistics);
-
-impl fmt::Display for ClosedPart {
-    fn fmt(&self, f: &mut fmt::Formatter) -> fmt::Result {
         let broken = self.0.connections_closed_broken;
         let invalid = self.0.connections_closed_invalid;
         let lifetime = self.0.connections_closed_max_lifetime;
         let idle_timeout = self.0.connections_closed_idle_timeout;
         write!(
             f,
-            " broken {broken} invalid {invalid} lifetime {lifetime} idle_timeout {idle_timeout}"
+            " wait_us {wait} created {created} broken {broken} invalid {invalid} lifetime {lifetime} idle_timeout {idle_timeout}"
         )
     }
 }
@@ -128,14 +106,14 @@ struct StateText(State);
 
 impl fmt::Display for StateText {
     fn fmt(&self, f: &mut fmt::Formatter) -> fmt::Result {
+        let connections = self.0.connections;
+        let idle = self.0.idle_connections;
         let statistics = self.0.statistics;
         write!(
             f,
-            "{}{}{}{}{}",
-            SizesPart(self.0),
+            "state connections {connections} idle {idle}{}{}{}",
             GetsPart(statistics),
-            OpenedPart(statistics),
-            ClosedPart(statistics),
+            ConnectionsPart(statistics),
             GonePart(statistics)
         )
     }

@@ -1,36 +1,29 @@
-use Rattle.bb8_core.proofs.Words.{true, false, sym, ◌∙◌, arith, view_of}
+use Rattle.bb8_core.proofs.Words.{arith, sym, ◌∙◌, false, true, view_of}
 use Rattle.bb8_ledger.specs.Acts as acts
-use Rattle.bb8_core.proofs.Fitting.{shown_fits, none_after}
-use Rattle.bb8_core.proofs.Runs.{fitting, unfit_step}
-use Rattle.bb8_core.proofs.Steps.{has_capacity, meets_add_broken, meets_add_full, meets_add_exhausted, meets_add_refused, meets_added, left, used_up, led, at_view, fits_view}
+use Rattle.bb8_core.proofs.Fitting.{none_after, shown_fits}
+use Rattle.bb8_core.proofs.Meets.{meets_add_broken, meets_add_full, meets_add_exhausted, meets_add_refused, meets_added}
+use Rattle.bb8_core.proofs.Steps.{left, used_up, led, fits_view, has_capacity}
+use Rattle.bb8_core.proofs.Rows.{made}
+use Rattle.bb8_core.proofs.Runs.{unfit_step, fitting}
 use Rattle.bb8_core.proofs.internals.PoolInternals.add.Goals as goal
 
 pub returns-then-broken-clause-step : goal.returns-then-broken-clause-step
-returns-then-broken-clause-step g c = (
-  rw c.if-broken.true (at_view c.self.view_is c.self.invariant.0
-      (meets_add_broken c.max-now.ensures c.args.conn (fits_view (acts.Add c.args.conn true) c.self.view_is (fitting (acts.Add c.args.conn c.args.broken) (c.if-not-fits_add.ensures c.args.conn c.args.broken))))),
-  tt,
-)
+returns-then-broken-clause-step g c = rw c.if-broken.true (made c.self.view_is c.self.invariant.0 c.max-now.ensures
+    (meets_add_broken c.args.conn (fits_view (acts.Add c.args.conn true) c.self.view_is (fitting (acts.Add c.args.conn c.args.broken) (c.if-not-fits_add.ensures c.args.conn c.args.broken)))))
 
 pub invariant_of-self-then-broken : goal.invariant_of-self-then-broken
 invariant_of-self-then-broken g c = (led _ c.args.at.0 (acts.Add c.args.conn c.args.broken) _ (returns-then-broken-clause-step g c).0, c.self.invariant.1)
 
 pub returns-then-used-self-clause-step : goal.returns-then-used-self-clause-step
-returns-then-used-self-clause-step g c = (
-  rw c.if-broken.false (at_view c.self.view_is c.self.invariant.0
-      (meets_add_full c.max-now.ensures c.args.conn (fits_view (acts.Add c.args.conn false) c.self.view_is (fitting (acts.Add c.args.conn c.args.broken) (c.if-not-fits_add.ensures c.args.conn c.args.broken))) (sym c.used.ensures ∙ c.if-used-self.true))),
-  tt,
-)
+returns-then-used-self-clause-step g c = rw c.if-broken.false (made c.self.view_is c.self.invariant.0 c.max-now.ensures
+    (meets_add_full c.args.conn (fits_view (acts.Add c.args.conn false) c.self.view_is (fitting (acts.Add c.args.conn c.args.broken) (c.if-not-fits_add.ensures c.args.conn c.args.broken))) (sym c.used.ensures ∙ c.if-used-self.true)))
 
 pub invariant_of-self-then-used-self : goal.invariant_of-self-then-used-self
 invariant_of-self-then-used-self g c = (led _ c.args.at.0 (acts.Add c.args.conn c.args.broken) _ (returns-then-used-self-clause-step g c).0, c.self.invariant.1)
 
 pub returns-then-not-has_number-clause-step : goal.returns-then-not-has_number-clause-step
-returns-then-not-has_number-clause-step g c = (
-  rw c.if-broken.false (at_view c.self.view_is c.self.invariant.0
-      (meets_add_exhausted c.max-now.ensures (has_capacity c.self.view_is (fitting (acts.Add c.args.conn c.args.broken) (c.if-not-fits_add.ensures c.args.conn c.args.broken)) c.used.ensures c.if-used-self.false) (used_up _ c.has_number.ensures c.if-not-has_number.true))),
-  tt,
-)
+returns-then-not-has_number-clause-step g c = rw c.if-broken.false (made c.self.view_is c.self.invariant.0 c.max-now.ensures
+    (meets_add_exhausted (has_capacity c.self.view_is (fitting (acts.Add c.args.conn c.args.broken) (c.if-not-fits_add.ensures c.args.conn c.args.broken)) c.used.ensures c.if-used-self.false) (used_up _ c.has_number.ensures c.if-not-has_number.true)))
 
 pub invariant_of-self-then-not-has_number : goal.invariant_of-self-then-not-has_number
 invariant_of-self-then-not-has_number g c = (led _ c.args.at.0 (acts.Add c.args.conn c.args.broken) _ (returns-then-not-has_number-clause-step g c).0, c.self.invariant.1)
@@ -45,24 +38,18 @@ pub add-requires-clause-number : goal.add-requires-clause-number
 add-requires-clause-number g c = left _ c.has_number.ensures c.if-not-has_number.false
 
 pub returns-in-Ok-clause-step : goal.returns-in-Ok-clause-step
-returns-in-Ok-clause-step g c = (
-  rw c.if-broken.false (at_view c.self.view_is c.self.invariant.0
-      (meets_added c.max-now.ensures (has_capacity c.self.view_is (fitting (acts.Add c.args.conn c.args.broken) (c.if-not-fits_add.ensures c.args.conn c.args.broken)) c.used.ensures c.if-used-self.false)
-      (record { who = c.notify-notified.ensures.value; after = c.notify-notified.ensures.state })
-      (left _ c.has_number.ensures c.if-not-has_number.false) c.in-Ok.ensures.ok.0 c.in-Ok.ensures.ok.1)),
-  tt,
-)
+returns-in-Ok-clause-step g c = rw c.if-broken.false (made c.self.view_is c.self.invariant.0 c.max-now.ensures
+    (meets_added (has_capacity c.self.view_is (fitting (acts.Add c.args.conn c.args.broken) (c.if-not-fits_add.ensures c.args.conn c.args.broken)) c.used.ensures c.if-used-self.false)
+    (record { who = c.notify-notified.ensures.value; after = c.notify-notified.ensures.state })
+    (left _ c.has_number.ensures c.if-not-has_number.false) c.in-Ok.ensures.ok.0 c.in-Ok.ensures.ok.1))
 
 pub invariant_of-self-in-Ok : goal.invariant_of-self-in-Ok
 invariant_of-self-in-Ok g c = (led _ c.args.at.0 (acts.Add c.args.conn c.args.broken) _ (returns-in-Ok-clause-step g c).0, c.self.invariant.1)
 
 pub returns-in-Err-clause-step : goal.returns-in-Err-clause-step
-returns-in-Err-clause-step g c = (
-  rw c.if-broken.false (at_view c.self.view_is c.self.invariant.0
-      (meets_add_refused c.max-now.ensures (has_capacity c.self.view_is (fitting (acts.Add c.args.conn c.args.broken) (c.if-not-fits_add.ensures c.args.conn c.args.broken)) c.used.ensures c.if-used-self.false)
-      (left _ c.has_number.ensures c.if-not-has_number.false) c.in-Err.ensures.err.1 c.in-Err.ensures.err.2)),
-  tt,
-)
+returns-in-Err-clause-step g c = rw c.if-broken.false (made c.self.view_is c.self.invariant.0 c.max-now.ensures
+    (meets_add_refused (has_capacity c.self.view_is (fitting (acts.Add c.args.conn c.args.broken) (c.if-not-fits_add.ensures c.args.conn c.args.broken)) c.used.ensures c.if-used-self.false)
+    (left _ c.has_number.ensures c.if-not-has_number.false) c.in-Err.ensures.err.1 c.in-Err.ensures.err.2))
 
 pub invariant_of-self-in-Err : goal.invariant_of-self-in-Err
 invariant_of-self-in-Err g c = (led _ c.args.at.0 (acts.Add c.args.conn c.args.broken) _ (returns-in-Err-clause-step g c).0, c.self.invariant.1)

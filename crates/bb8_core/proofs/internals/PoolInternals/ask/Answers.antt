@@ -1,7 +1,9 @@
 use Rattle.bb8_core.proofs.Words.{arith, refl, view_of}
 use Rattle.bb8_ledger.specs.Acts as acts
 use Rattle.bb8_core.proofs.Fitting.{due_fits}
-use Rattle.bb8_core.proofs.Steps.{meets_ask, led, at_view}
+use Rattle.bb8_core.proofs.Meets.{meets_ask}
+use Rattle.bb8_core.proofs.Steps.{led}
+use Rattle.bb8_core.proofs.Rows.{at_view}
 use Rattle.bb8_core.proofs.StepBounds.{bounded}
 use Rattle.bb8_core.proofs.internals.PoolInternals.ask.Goals as goal
 
@@ -9,8 +11,8 @@ pub grant-requires : goal.grant-requires
 grant-requires g c = omega (arith, due_fits (view_of c.self.inside) {taken = c.self.inside.records} _ c.self.invariant.0 (omega arith) refl refl c.due_asked-due.ensures)
 
 pub returns-clause-step : goal.returns-clause-step
-returns-clause-step g c = at_view c.self.view_is c.self.invariant.0
-    (meets_ask c.max-self-inside.ensures c.unnotified-waiting.ensures c.due_asked-due.ensures c.grant.ensures.granted c.grant.ensures.state)
+returns-clause-step g c = at_view c.self.view_is c.self.invariant.0 c.max-self-inside.ensures
+    (meets_ask c.unnotified-waiting.ensures c.due_asked-due.ensures c.grant.ensures.granted c.grant.ensures.state)
 
 pub invariant_of-self : goal.invariant_of-self
 invariant_of-self g c = (led _ c.args.at.0 acts.Ask _ (returns-clause-step g c), c.self.invariant.1)

@@ -1,11 +1,13 @@
-use Rattle.bb8_core.proofs.Words.{refl, ap, ◌∙◌, ◌||◌, Bool, ltb, arith, view_of}
+use Rattle.bb8_core.proofs.Words.{arith, refl, ◌∙◌, ap, Bool, ◌||◌, ltb, view_of}
 use Rattle.bb8_ledger.specs.Acts as acts
-use Rattle.bb8_core.proofs.Fitting.{shown_fits, fits_held, unfit_held, held_out, closed_few, invalid_few}
-use Rattle.bb8_core.proofs.Runs.{unfit_gets}
-use Rattle.bb8_core.proofs.Steps.{led, at_view}
-use Rattle.bb8_core.proofs.GetEnds.{notices, meets_invalid}
 use Rattle.std.proofs.Math.Nat.{min-le_left}
-use Rattle.bb8_core.proofs.StepBounds.{bounded, one_few}
+use Rattle.bb8_core.proofs.Fitting.{shown_fits, closed_few, invalid_few, fits_held, unfit_held, held_out}
+use Rattle.bb8_core.proofs.Meets.{meets_invalid}
+use Rattle.bb8_core.proofs.Steps.{led}
+use Rattle.bb8_core.proofs.GetEnds.{notices}
+use Rattle.bb8_core.proofs.Rows.{made}
+use Rattle.bb8_core.proofs.Runs.{unfit_gets}
+use Rattle.bb8_core.proofs.StepBounds.{one_few, bounded}
 use Rattle.bb8_core.proofs.internals.PoolInternals.checked_err.Goals as goal
 
 pub returns-in_default-clause-step : goal.returns-in_default-clause-step
@@ -30,15 +32,12 @@ close-requires g c =
 
 pub returns-clause-step : goal.returns-clause-step
 returns-clause-step g c =
-    let held = c.in-Some.ensures.some in (
-      at_view c.self.view_is c.self.invariant.0
-          (meets_invalid c.self.inside.counters (fits_held (view_of c.self.inside) c.args.get.number c.in-Some.held held.0)
-          (record { now_is = c.max-now.ensures; get_is = refl; held = held.0 })
-          (record { now_is = c.max-now.ensures; birth_is = c.birth-birth.ensures.value; aged_is = c.either-expired.ensures ∙ ap (λ (b : Bool). b || ltb c.in-Some.held c.self.inside.retired) c.is_expired.ensures })
-          c.close_and_grant-grant.ensures.granted c.close_and_grant-grant.ensures.state
-          (notices held.1 c.notify-notified.ensures.value c.notify-notified.ensures.state) refl c.close.ensures),
-      tt,
-    )
+    let held = c.in-Some.ensures.some in
+    made c.self.view_is c.self.invariant.0 c.max-now.ensures
+    (meets_invalid c.self.inside.counters (fits_held (view_of c.self.inside) c.args.get.number c.in-Some.held held.0) held.0
+    (rw c.birth-birth.ensures.value at (c.either-expired.ensures ∙ ap (λ (b : Bool). b || ltb c.in-Some.held c.self.inside.retired) c.is_expired.ensures))
+    c.close_and_grant-grant.ensures.granted c.close_and_grant-grant.ensures.state
+    (notices held.1 c.notify-notified.ensures.value c.notify-notified.ensures.state) refl c.close.ensures)
 
 pub invariant_of-self-2 : goal.invariant_of-self-2
 invariant_of-self-2 g c = (led _ c.args.at.0 (acts.CheckedErr c.args.get.number c.args.broken) _ (returns-clause-step g c).0, c.self.invariant.1)

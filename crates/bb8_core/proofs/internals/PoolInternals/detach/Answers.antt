@@ -1,10 +1,12 @@
-use Rattle.bb8_core.proofs.Words.{refl, sym, ◌∙◌, arith, is_guarded, view_of, nat_tests}
+use Rattle.bb8_core.proofs.Words.{arith, refl, sym, ◌∙◌, is_guarded, nat_tests, view_of}
 use Rattle.bb8_ledger.specs.Acts as acts
-use Rattle.bb8_core.proofs.Fitting.{as_shown, shown_fits, fits_at, unfit_at, guarded_record, closed_few}
-use Rattle.bb8_core.proofs.Runs.{unfit_step}
-use Rattle.bb8_core.proofs.Steps.{meets_detached, led, at_view}
 use Rattle.std.proofs.Math.Nat.{min-le_left}
-use Rattle.bb8_core.proofs.StepBounds.{bounded, one_few}
+use Rattle.bb8_core.proofs.Fitting.{as_shown, shown_fits, fits_at, unfit_at, guarded_record, closed_few}
+use Rattle.bb8_core.proofs.Meets.{meets_detached}
+use Rattle.bb8_core.proofs.Steps.{led}
+use Rattle.bb8_core.proofs.Rows.{made}
+use Rattle.bb8_core.proofs.Runs.{unfit_step}
+use Rattle.bb8_core.proofs.StepBounds.{one_few, bounded}
 use Rattle.bb8_core.proofs.internals.PoolInternals.detach.Goals as goal
 
 pub returns-then-not-is_guarded-clause-step : goal.returns-then-not-is_guarded-clause-step
@@ -18,14 +20,11 @@ pub detach-requires : goal.detach-requires
 detach-requires g c = grind (arith, nat_tests, closed_few c.args.k.number (view_of c.self.inside) c.self.invariant.0, guarded_record (view_of c.self.inside) c.args.k.number)
 
 pub returns-clause-step : goal.returns-clause-step
-returns-clause-step g c = (
-  at_view c.self.view_is c.self.invariant.0
-      (meets_detached c.self.inside.counters c.max-self-inside.ensures
-      (fits_at (view_of c.self.inside) is_guarded c.args.k.number (sym c.is_guarded.ensures.value ∙ c.if-not-is_guarded.false))
-      (record { who = c.notify-notified.ensures.value; after = c.notify-notified.ensures.state })
-      c.close_and_grant-grant.ensures.granted c.close_and_grant-grant.ensures.state refl c.detach.ensures),
-  tt,
-)
+returns-clause-step g c = made c.self.view_is c.self.invariant.0 c.max-self-inside.ensures
+    (meets_detached c.self.inside.counters
+    (fits_at (view_of c.self.inside) is_guarded c.args.k.number (sym c.is_guarded.ensures.value ∙ c.if-not-is_guarded.false))
+    (record { who = c.notify-notified.ensures.value; after = c.notify-notified.ensures.state })
+    c.close_and_grant-grant.ensures.granted c.close_and_grant-grant.ensures.state refl c.detach.ensures)
 
 pub invariant_of-self-2 : goal.invariant_of-self-2
 invariant_of-self-2 g c = (led _ c.args.at.0 (acts.Detach c.args.k.number) _ (returns-clause-step g c).0, c.self.invariant.1)

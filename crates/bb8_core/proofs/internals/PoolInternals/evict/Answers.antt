@@ -1,10 +1,12 @@
-use Rattle.bb8_core.proofs.Words.{refl, sym, ap, ◌∙◌, ◌+◌, ◌≤◌, arith, stands, is_idle, Idle, RecordsView, view_of, nat_tests}
+use Rattle.bb8_core.proofs.Words.{arith, refl, ap, ◌+◌, ◌≤◌, stands, is_idle, nat_tests, RecordsView, view_of}
 use Rattle.bb8_ledger.specs.Acts as acts
-use Rattle.bb8_core.proofs.Fitting.{as_shown, shown_record, fits_at, unfit_at, evicted_few, due_fits}
-use Rattle.bb8_core.proofs.Runs.{unfit_records}
-use Rattle.bb8_core.proofs.Steps.{meets_evicted, grants, led, at_view}
 use Rattle.std.proofs.Math.Nat.{min-le_left}
-use Rattle.bb8_core.proofs.StepBounds.{bounded, one_few}
+use Rattle.bb8_core.proofs.Fitting.{idle_as, due_fits, fits_at, unfit_at, evicted_few}
+use Rattle.bb8_core.proofs.Meets.{meets_evicted}
+use Rattle.bb8_core.proofs.Steps.{led, grants}
+use Rattle.bb8_core.proofs.Rows.{made}
+use Rattle.bb8_core.proofs.Runs.{unfit_records}
+use Rattle.bb8_core.proofs.StepBounds.{one_few, bounded}
 use Rattle.bb8_core.proofs.internals.PoolInternals.evict.Goals as goal
 
 pub returns-in-None-clause-step : goal.returns-in-None-clause-step
@@ -21,23 +23,15 @@ pub detach-requires : goal.detach-requires
 detach-requires g c = grind (arith, nat_tests, evicted_few c.args.k.number (view_of c.self.inside) c.self.invariant.0)
 
 pub returns-in-Some-clause-step : goal.returns-in-Some-clause-step
-returns-in-Some-clause-step g c = (
-  at_view c.self.view_is c.self.invariant.0
-      (meets_evicted c.self.inside.counters c.max-self-inside.ensures
-      (fits_at (view_of c.self.inside) is_idle c.args.k.number (ap (stands is_idle) c.in-Some.ensures.some.0.2))
-      (record { who = c.notify-notified.ensures.value; after = c.notify-notified.ensures.state })
-      c.in-Some.ensures.some.1
-      (grants refl c.want-wanted.ensures c.grant-grant.ensures.granted c.grant-grant.ensures.state) refl c.detach.ensures),
-  tt,
-)
+returns-in-Some-clause-step g c = made c.self.view_is c.self.invariant.0 c.max-self-inside.ensures
+    (meets_evicted c.self.inside.counters
+    (fits_at (view_of c.self.inside) is_idle c.args.k.number (ap (stands is_idle) c.in-Some.ensures.some.0.2))
+    (record { who = c.notify-notified.ensures.value; after = c.notify-notified.ensures.state })
+    c.in-Some.ensures.some.1
+    (grants refl c.want-wanted.ensures c.grant-grant.ensures.granted c.grant-grant.ensures.state) refl c.detach.ensures)
 
 pub returns-in-Some-clause-connection : goal.returns-in-Some-clause-connection
-returns-in-Some-clause-connection g c = λ l legal means.
-    let was = c.in-Some.ensures.some.0 in (
-      record { place = Idle c.in-Some.conn; birth = was.0; entered = was.1 },
-      shown_record l (view_of c.self.inside) (as_shown l (sym c.self.view_is) means) c.args.k.number ∙ was.2,
-      refl,
-    )
+returns-in-Some-clause-connection g c = idle_as _ _ c.self.view_is c.in-Some.ensures.some.0
 
 pub invariant_of-self-in-Some : goal.invariant_of-self-in-Some
 invariant_of-self-in-Some g c = (led _ c.args.at.0 (acts.Evict c.args.k.number) _ (returns-in-Some-clause-step g c).0, c.self.invariant.1)

@@ -1,11 +1,13 @@
-use Rattle.bb8_core.proofs.Words.{◌≡◌, ap, ◌-◌, ◌||◌, Bool, birth_in, true, false, Some, sym, refl, ◌∙◌, arith, view_of, get, holding_is, reason_of, eqb, ltb, nat_tests}
+use Rattle.bb8_core.proofs.Words.{arith, refl, sym, ◌∙◌, ap, ◌≡◌, false, Some, true, Bool, eqb, ◌-◌, ◌||◌, ltb, nat_tests, birth_in, get, holding_is, view_of, reason_of}
 use Rattle.bb8_ledger.specs.Acts as acts
-use Rattle.bb8_core.proofs.Fitting.{number_few, shown_fits, fits_give_back, unfit_give_back, held_with, held_out, ended_few, closed_few, none_after}
-use Rattle.bb8_core.proofs.Runs.{unfit_gets}
-use Rattle.bb8_core.proofs.Steps.{regroup, led, at_view}
-use Rattle.bb8_core.proofs.GetEnds.{given_up_is, given_up_open, notices, meets_given_up_kept, meets_given_up_closed}
 use Rattle.std.proofs.Math.Nat.{min-le_left}
-use Rattle.bb8_core.proofs.StepBounds.{bounded, one_few}
+use Rattle.bb8_core.proofs.Fitting.{none_after, shown_fits, number_few, closed_few, ended_few, held_out, fits_give_back, unfit_give_back, held_with}
+use Rattle.bb8_core.proofs.Meets.{meets_given_up_kept, meets_given_up_closed}
+use Rattle.bb8_core.proofs.Steps.{regroup, led}
+use Rattle.bb8_core.proofs.GetEnds.{notices, given_up_is, given_up_open}
+use Rattle.bb8_core.proofs.Rows.{made}
+use Rattle.bb8_core.proofs.Runs.{unfit_gets}
+use Rattle.bb8_core.proofs.StepBounds.{one_few, bounded}
 use Rattle.bb8_core.proofs.internals.PoolInternals.give_back.Goals as goal
 
 pub returns-in_default-clause-step : goal.returns-in_default-clause-step
@@ -35,16 +37,13 @@ returns-in-Ok-Ok-clause-step g c =
     let a = view_of c.self.inside in
     let held = c.in-Some.ensures.some in
     let ok = rw c.in-Ok-Ok.field-0-is at c.in-Ok-Ok.ensures.ok in
-    let few = number_few c.in-Some.held a c.self.invariant.0 (held_out a c.args.get.number c.in-Some.held c.self.invariant.0 held.0) c.in-Ok-Ok.ensures.numbers in (
-      at_view c.self.view_is c.self.invariant.0
-          (meets_given_up_kept c.args.reason c.self.inside.counters
-          (fits_give_back a c.args.get.number c.in-Some.held (reason_of c.args.reason) c.args.conn c.args.broken held.0)
-          (record { now_is = c.max-now.ensures; get_is = refl; held = held.0 })
-          (record { now_is = c.max-now.ensures; birth_is = refl; aged_is = ap (λ (b : Bool). b || (ltb c.in-Some.held c.self.inside.retired)) (c.self.invariant.1.age (c.max-now.result - birth_in (get c.self.inside.records.places c.in-Some.held)) (omega arith)) })
-          c.is_doubtful-doubtful.ensures (regroup c.is_doubtful-doubtful.result (ltb c.self.inside.max_age (c.max-now.result - birth_in (get c.self.inside.records.places c.in-Some.held))) (eqb c.self.inside.handles 0) (ltb c.in-Some.held c.self.inside.retired) (c.self.invariant.1.closed c.in-Some.held few) refl ok.0) ok.1 (notices held.2 c.notify-notified.ensures.value c.notify-notified.ensures.state) refl held.1
-          (given_up_is c.args.reason c.max-now.result c.in-Some.first_wait c.give_up.ensures.timed_out c.give_up.ensures.cancelled)),
-      tt,
-    )
+    let few = number_few c.in-Some.held a c.self.invariant.0 (held_out a c.args.get.number c.in-Some.held c.self.invariant.0 held.0) c.in-Ok-Ok.ensures.numbers in
+    made c.self.view_is c.self.invariant.0 c.max-now.ensures
+    (meets_given_up_kept c.args.reason c.self.inside.counters
+    (fits_give_back a c.args.get.number c.in-Some.held (reason_of c.args.reason) c.args.conn c.args.broken held.0) held.0
+    (ap (λ (b : Bool). b || (ltb c.in-Some.held c.self.inside.retired)) (c.self.invariant.1.age (c.max-now.result - birth_in (get c.self.inside.records.places c.in-Some.held)) (omega arith)))
+    c.is_doubtful-doubtful.ensures (regroup c.is_doubtful-doubtful.result (ltb c.self.inside.max_age (c.max-now.result - birth_in (get c.self.inside.records.places c.in-Some.held))) (eqb c.self.inside.handles 0) (ltb c.in-Some.held c.self.inside.retired) (c.self.invariant.1.closed c.in-Some.held few) refl ok.0) ok.1 (notices held.2 c.notify-notified.ensures.value c.notify-notified.ensures.state) refl held.1
+    (given_up_is c.args.reason c.max-now.result c.in-Some.first_wait c.give_up.ensures.timed_out c.give_up.ensures.cancelled))
 
 pub invariant_of-self-in-Ok-Ok : goal.invariant_of-self-in-Ok-Ok
 invariant_of-self-in-Ok-Ok g c = (
@@ -75,17 +74,14 @@ returns-in-Ok-Err-clause-step g c =
     let a = view_of c.self.inside in
     let held = c.in-Some.ensures.some in
     let err = rw c.in-Ok-Err.field-0-is at c.in-Ok-Err.ensures.err in
-    let few = number_few c.in-Some.held a c.self.invariant.0 (held_out a c.args.get.number c.in-Some.held c.self.invariant.0 held.0) (rw err.3 at c.close_and_grant-grant.ensures.numbers) in (
-      at_view c.self.view_is c.self.invariant.0
-          (meets_given_up_closed c.args.reason c.self.inside.counters
-          (fits_give_back a c.args.get.number c.in-Some.held (reason_of c.args.reason) c.args.conn c.args.broken held.0)
-          (record { now_is = c.max-now.ensures; get_is = refl; held = held.0 })
-          (record { now_is = c.max-now.ensures; birth_is = refl; aged_is = c.either.ensures ∙ ap (λ (b : Bool). b || (ltb c.in-Some.held c.self.inside.retired)) (err.1 ∙ c.self.invariant.1.age (c.max-now.result - birth_in (get c.self.inside.records.places c.in-Some.held)) (omega arith)) })
-          c.is_doubtful-doubtful.ensures (regroup c.is_doubtful-doubtful.result c.in-Ok-Err.expired (eqb c.self.inside.handles 0) (ltb c.in-Some.held c.self.inside.retired) (c.self.invariant.1.closed c.in-Some.held few) c.either.ensures err.2) (rw err.3 at c.close_and_grant-grant.ensures.granted) (rw err.3 at c.close_and_grant-grant.ensures.state)
-          (notices held.2 c.notify-notified-in-Ok-Err.ensures.value c.notify-notified-in-Ok-Err.ensures.state) refl held.1
-          (given_up_is c.args.reason c.max-now.result c.in-Some.first_wait c.give_up.ensures.timed_out c.give_up.ensures.cancelled) c.close.ensures),
-      tt,
-    )
+    let few = number_few c.in-Some.held a c.self.invariant.0 (held_out a c.args.get.number c.in-Some.held c.self.invariant.0 held.0) (rw err.3 at c.close_and_grant-grant.ensures.numbers) in
+    made c.self.view_is c.self.invariant.0 c.max-now.ensures
+    (meets_given_up_closed c.args.reason c.self.inside.counters
+    (fits_give_back a c.args.get.number c.in-Some.held (reason_of c.args.reason) c.args.conn c.args.broken held.0) held.0
+    (c.either.ensures ∙ ap (λ (b : Bool). b || (ltb c.in-Some.held c.self.inside.retired)) (err.1 ∙ c.self.invariant.1.age (c.max-now.result - birth_in (get c.self.inside.records.places c.in-Some.held)) (omega arith)))
+    c.is_doubtful-doubtful.ensures (regroup c.is_doubtful-doubtful.result c.in-Ok-Err.expired (eqb c.self.inside.handles 0) (ltb c.in-Some.held c.self.inside.retired) (c.self.invariant.1.closed c.in-Some.held few) c.either.ensures err.2) (rw err.3 at c.close_and_grant-grant.ensures.granted) (rw err.3 at c.close_and_grant-grant.ensures.state)
+    (notices held.2 c.notify-notified-in-Ok-Err.ensures.value c.notify-notified-in-Ok-Err.ensures.state) refl held.1
+    (given_up_is c.args.reason c.max-now.result c.in-Some.first_wait c.give_up.ensures.timed_out c.give_up.ensures.cancelled) c.close.ensures)
 
 pub invariant_of-self-in-Ok-Err : goal.invariant_of-self-in-Ok-Err
 invariant_of-self-in-Ok-Err g c = (

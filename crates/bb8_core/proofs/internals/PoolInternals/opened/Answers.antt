@@ -1,9 +1,11 @@
-use Rattle.bb8_core.proofs.Words.{arith, refl, get, is_claimed, standing_is, view_of}
+use Rattle.bb8_core.proofs.Words.{arith, standing_is, is_claimed, get, view_of}
 use Rattle.bb8_ledger.specs.Acts as acts
-use Rattle.bb8_core.proofs.Fitting.{number_few, fits_at, unfit_at, created_few, none_after}
-use Rattle.bb8_core.proofs.ClosesBelow.{late_below, in_time_above}
+use Rattle.bb8_core.proofs.Fitting.{none_after, fits_at, unfit_at, number_few, created_few}
+use Rattle.bb8_core.proofs.Meets.{meets_opened, meets_late}
+use Rattle.bb8_core.proofs.Steps.{led}
+use Rattle.bb8_core.proofs.Rows.{made}
 use Rattle.bb8_core.proofs.Runs.{unfit_records}
-use Rattle.bb8_core.proofs.Steps.{meets_opened, meets_late, led, at_view}
+use Rattle.bb8_core.proofs.ClosesBelow.{late_below, in_time_above}
 use Rattle.bb8_core.proofs.internals.PoolInternals.opened.Goals as goal
 
 pub returns-then-not-end_claimed-clause-step : goal.returns-then-not-end_claimed-clause-step
@@ -15,12 +17,9 @@ pub invariant_of-self : goal.invariant_of-self
 invariant_of-self g c = (led _ c.args.at.0 (acts.Opened c.args.a.number c.args.conn) _ (returns-then-not-end_claimed-clause-step g c).0, c.self.invariant.1)
 
 pub returns-then-a-self-clause-step : goal.returns-then-a-self-clause-step
-returns-then-a-self-clause-step g c = (
-  at_view c.self.view_is c.self.invariant.0
-      (meets_late c.max-now.ensures c.args.conn (fits_at (view_of c.self.inside) is_claimed c.args.a.number (c.end_claimed.ensures.ended c.if-not-end_claimed.false).0)
-      (late_below _ _ c.self.invariant.1.closed (omega arith) c.if-a-self.true) (c.end_claimed.ensures.ended c.if-not-end_claimed.false).1),
-  tt,
-)
+returns-then-a-self-clause-step g c = made c.self.view_is c.self.invariant.0 c.max-now.ensures
+    (meets_late c.args.conn (fits_at (view_of c.self.inside) is_claimed c.args.a.number (c.end_claimed.ensures.ended c.if-not-end_claimed.false).0)
+    (late_below _ _ c.self.invariant.1.closed (omega arith) c.if-a-self.true) (c.end_claimed.ensures.ended c.if-not-end_claimed.false).1)
 
 pub invariant_of-self-then-a-self : goal.invariant_of-self-then-a-self
 invariant_of-self-then-a-self g c = (led _ c.args.at.0 (acts.Opened c.args.a.number c.args.conn) _ (returns-then-a-self-clause-step g c).0, c.self.invariant.1)
@@ -38,12 +37,10 @@ overflow_add-self g c = omega (arith, created_few (view_of c.self.inside) c.args
 pub returns-in-Ok-clause-step : goal.returns-in-Ok-clause-step
 returns-in-Ok-clause-step g c =
     let a = view_of c.self.inside in
-    let few = number_few c.args.a.number a c.self.invariant.0 (standing_is is_claimed (get a.records.places c.args.a.number) c.in-Ok.ensures.ok.0) c.in-Ok.ensures.numbers in (
-      at_view c.self.view_is c.self.invariant.0
-          (meets_opened c.max-now.ensures c.args.conn (fits_at a is_claimed c.args.a.number c.in-Ok.ensures.ok.0)
-          (in_time_above _ _ c.self.invariant.1.closed few c.if-a-self.false) c.in-Ok.ensures.ok.1 (record { who = c.notify-notified.ensures.value; after = c.notify-notified.ensures.state }) refl),
-      tt,
-    )
+    let few = number_few c.args.a.number a c.self.invariant.0 (standing_is is_claimed (get a.records.places c.args.a.number) c.in-Ok.ensures.ok.0) c.in-Ok.ensures.numbers in
+    made c.self.view_is c.self.invariant.0 c.max-now.ensures
+    (meets_opened c.args.conn (fits_at a is_claimed c.args.a.number c.in-Ok.ensures.ok.0)
+    (in_time_above _ _ c.self.invariant.1.closed few c.if-a-self.false) c.in-Ok.ensures.ok.1 (record { who = c.notify-notified.ensures.value; after = c.notify-notified.ensures.state }))
 
 pub invariant_of-self-in-Ok : goal.invariant_of-self-in-Ok
 invariant_of-self-in-Ok g c = (led _ c.args.at.0 (acts.Opened c.args.a.number c.args.conn) _ (returns-in-Ok-clause-step g c).0, c.self.invariant.1)

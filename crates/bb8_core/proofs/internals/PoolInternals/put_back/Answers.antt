@@ -1,10 +1,12 @@
-use Rattle.bb8_core.proofs.Words.{refl, ap, ◌∙◌, ◌-◌, ◌||◌, Bool, arith, get, birth_in, is_guarded, view_of, eqb, ltb, nat_tests}
+use Rattle.bb8_core.proofs.Words.{arith, refl, ◌∙◌, ap, Bool, eqb, ◌-◌, ◌||◌, is_guarded, ltb, nat_tests, birth_in, get, view_of}
 use Rattle.bb8_ledger.specs.Acts as acts
-use Rattle.bb8_core.proofs.Fitting.{number_few, shown_fits, fits_at, unfit_at, guarded_record, closed_few, none_after}
-use Rattle.bb8_core.proofs.Runs.{unfit_records}
-use Rattle.bb8_core.proofs.Steps.{meets_returned_kept, meets_returned_closed, regroup, led, at_view}
 use Rattle.std.proofs.Math.Nat.{min-le_left}
-use Rattle.bb8_core.proofs.StepBounds.{bounded, one_few}
+use Rattle.bb8_core.proofs.Fitting.{none_after, shown_fits, fits_at, unfit_at, guarded_record, number_few, closed_few}
+use Rattle.bb8_core.proofs.Meets.{meets_returned_kept, meets_returned_closed}
+use Rattle.bb8_core.proofs.Steps.{regroup, led}
+use Rattle.bb8_core.proofs.Rows.{made}
+use Rattle.bb8_core.proofs.Runs.{unfit_records}
+use Rattle.bb8_core.proofs.StepBounds.{one_few, bounded}
 use Rattle.bb8_core.proofs.internals.PoolInternals.put_back.Goals as goal
 
 pub put_back-requires : goal.put_back-requires
@@ -18,14 +20,12 @@ pub returns-in-Ok-Ok-clause-step : goal.returns-in-Ok-Ok-clause-step
 returns-in-Ok-Ok-clause-step g c =
     let a = view_of c.self.inside in
     let ok = rw c.in-Ok-Ok.field-0-is at c.in-Ok-Ok.ensures.ok in
-    let few = number_few c.args.k.number a c.self.invariant.0 (guarded_record a c.args.k.number c.in-Ok-Ok.ensures.held) c.in-Ok-Ok.ensures.numbers in (
-      at_view c.self.view_is c.self.invariant.0
-          (meets_returned_kept (fits_at a is_guarded c.args.k.number c.in-Ok-Ok.ensures.held)
-          (record { who = c.notify-notified.ensures.value; after = c.notify-notified.ensures.state })
-          (record { now_is = c.max-now.ensures; birth_is = refl; aged_is = ap (λ (b : Bool). b || (ltb c.args.k.number c.self.inside.retired)) (c.self.invariant.1.age (c.max-now.result - birth_in (get c.self.inside.records.places c.args.k.number)) (omega arith)) })
-          (regroup c.args.broken (ltb c.self.inside.max_age (c.max-now.result - birth_in (get c.self.inside.records.places c.args.k.number))) (eqb c.self.inside.handles 0) (ltb c.args.k.number c.self.inside.retired) (c.self.invariant.1.closed c.args.k.number few) refl ok.0) ok.1),
-      tt,
-    )
+    let few = number_few c.args.k.number a c.self.invariant.0 (guarded_record a c.args.k.number c.in-Ok-Ok.ensures.held) c.in-Ok-Ok.ensures.numbers in
+    made c.self.view_is c.self.invariant.0 c.max-now.ensures
+    (meets_returned_kept (fits_at a is_guarded c.args.k.number c.in-Ok-Ok.ensures.held)
+    (record { who = c.notify-notified.ensures.value; after = c.notify-notified.ensures.state })
+    (ap (λ (b : Bool). b || (ltb c.args.k.number c.self.inside.retired)) (c.self.invariant.1.age (c.max-now.result - birth_in (get c.self.inside.records.places c.args.k.number)) (omega arith)))
+    (regroup c.args.broken (ltb c.self.inside.max_age (c.max-now.result - birth_in (get c.self.inside.records.places c.args.k.number))) (eqb c.self.inside.handles 0) (ltb c.args.k.number c.self.inside.retired) (c.self.invariant.1.closed c.args.k.number few) refl ok.0) ok.1)
 
 pub invariant_of-self-in-Ok-Ok : goal.invariant_of-self-in-Ok-Ok
 invariant_of-self-in-Ok-Ok g c = (
@@ -48,14 +48,12 @@ returns-in-Ok-Err-clause-step g c =
     let a = view_of c.self.inside in
     let r = c.in-Ok-Err.ensures in
     let err = rw c.in-Ok-Err.field-0-is at r.err in
-    let few = number_few c.args.k.number a c.self.invariant.0 (guarded_record a c.args.k.number r.held) (rw err.3 at c.close_and_grant-grant.ensures.numbers) in (
-      at_view c.self.view_is c.self.invariant.0
-          (meets_returned_closed c.self.inside.counters (fits_at a is_guarded c.args.k.number r.held)
-          (record { who = c.notify-notified-in-Ok-Err.ensures.value; after = c.notify-notified-in-Ok-Err.ensures.state })
-          (record { now_is = c.max-now.ensures; birth_is = refl; aged_is = c.either.ensures ∙ ap (λ (b : Bool). b || (ltb c.args.k.number c.self.inside.retired)) (err.1 ∙ c.self.invariant.1.age (c.max-now.result - birth_in (get c.self.inside.records.places c.args.k.number)) (omega arith)) })
-          (regroup c.args.broken c.in-Ok-Err.expired (eqb c.self.inside.handles 0) (ltb c.args.k.number c.self.inside.retired) (c.self.invariant.1.closed c.args.k.number few) c.either.ensures err.2) (rw err.3 at c.close_and_grant-grant.ensures.granted) (rw err.3 at c.close_and_grant-grant.ensures.state) refl c.close.ensures),
-      tt,
-    )
+    let few = number_few c.args.k.number a c.self.invariant.0 (guarded_record a c.args.k.number r.held) (rw err.3 at c.close_and_grant-grant.ensures.numbers) in
+    made c.self.view_is c.self.invariant.0 c.max-now.ensures
+    (meets_returned_closed c.self.inside.counters (fits_at a is_guarded c.args.k.number r.held)
+    (record { who = c.notify-notified-in-Ok-Err.ensures.value; after = c.notify-notified-in-Ok-Err.ensures.state })
+    (c.either.ensures ∙ ap (λ (b : Bool). b || (ltb c.args.k.number c.self.inside.retired)) (err.1 ∙ c.self.invariant.1.age (c.max-now.result - birth_in (get c.self.inside.records.places c.args.k.number)) (omega arith)))
+    (regroup c.args.broken c.in-Ok-Err.expired (eqb c.self.inside.handles 0) (ltb c.args.k.number c.self.inside.retired) (c.self.invariant.1.closed c.args.k.number few) c.either.ensures err.2) (rw err.3 at c.close_and_grant-grant.ensures.granted) (rw err.3 at c.close_and_grant-grant.ensures.state) refl c.close.ensures)
 
 pub invariant_of-self-in-Ok-Err : goal.invariant_of-self-in-Ok-Err
 invariant_of-self-in-Ok-Err g c = (

@@ -1,16 +1,18 @@
-use Rattle.bb8_core.proofs.Words.{◌+◌, ◌≤◌, ap, arith, refl, after_reap, RecordsView, view_of, StateView}
+use Rattle.bb8_core.proofs.Words.{arith, refl, ap, ◌+◌, ◌≤◌, after_reap, RecordsView, view_of, StateView}
 use Rattle.bb8_ledger.specs.Acts as acts
-use Rattle.bb8_core.proofs.Fitting.{due_fits}
-use Rattle.bb8_core.proofs.ShownReaped.{reap_few}
-use Rattle.bb8_core.proofs.Closings.{reap_offers, no_reap_offers}
-use Rattle.bb8_core.proofs.Reaps.{meets_reap_ended, meets_reaped, reaped_few}
-use Rattle.bb8_core.proofs.Steps.{grants, led, at_view}
 use Rattle.bb8_core.specs.StepBounds.{out_of}
+use Rattle.bb8_core.proofs.Fitting.{due_fits}
+use Rattle.bb8_core.proofs.Meets.{meets_reap_ended, meets_reaped}
+use Rattle.bb8_core.proofs.Steps.{led, grants}
+use Rattle.bb8_core.proofs.Reaps.{reaped_few}
+use Rattle.bb8_core.proofs.Rows.{at_view}
+use Rattle.bb8_core.proofs.Closings.{reap_offers, no_reap_offers}
 use Rattle.bb8_core.proofs.StepBounds.{bounded}
+use Rattle.bb8_core.proofs.ShownReaped.{reap_few}
 use Rattle.bb8_core.proofs.internals.PoolInternals.reap_into.Goals as goal
 
 pub returns-then-self-eq0-clause-step : goal.returns-then-self-eq0-clause-step
-returns-then-self-eq0-clause-step g c = at_view c.self.view_is c.self.invariant.0 (meets_reap_ended c.max-now.ensures c.if-self-eq0.true)
+returns-then-self-eq0-clause-step g c = at_view c.self.view_is c.self.invariant.0 c.max-now.ensures (meets_reap_ended c.if-self-eq0.true)
 
 pub invariant_of-self : goal.invariant_of-self
 invariant_of-self g c = (led _ c.args.at.0 acts.Reap _ (returns-then-self-eq0-clause-step g c), c.self.invariant.1)
@@ -34,8 +36,8 @@ pub reap-requires-clause-by_life : goal.reap-requires-clause-by_life
 reap-requires-clause-by_life g c = (reaped_few (view_of c.self.inside) c.self.invariant.0 (omega (arith, c.max-now.ensures)) c.reap-reaped.ensures.ends.2 c.reap-reaped.ensures.numbers).1
 
 pub returns-clause-step : goal.returns-clause-step
-returns-clause-step g c = at_view c.self.view_is c.self.invariant.0
-    (meets_reaped c.self.inside.counters c.max-now.ensures c.if-self-eq0.false c.reap-reaped.ensures.ends.2
+returns-clause-step g c = at_view c.self.view_is c.self.invariant.0 c.max-now.ensures
+    (meets_reaped c.self.inside.counters c.if-self-eq0.false c.reap-reaped.ensures.ends.2
     (grants refl c.want-wanted.ensures c.grant-grant.ensures.granted c.grant-grant.ensures.state) refl c.reap.ensures)
 
 pub invariant_of-self-2 : goal.invariant_of-self-2

@@ -1,17 +1,19 @@
-use Rattle.bb8_core.proofs.Words.{◌+◌, ◌≤◌, ap, arith, refl, after_reap, RecordsView, view_of, StateView}
+use Rattle.bb8_core.proofs.Words.{arith, refl, ap, ◌+◌, ◌≤◌, after_reap, RecordsView, view_of, StateView}
 use Rattle.bb8_ledger.specs.Acts as acts
-use Rattle.bb8_core.proofs.Fitting.{due_fits}
-use Rattle.bb8_core.proofs.ShownReaped.{reap_few}
-use Rattle.bb8_core.proofs.Closings.{retire_offers, no_retire_offers}
-use Rattle.bb8_core.proofs.Reaps.{meets_retire_ended, meets_retired, retired_few}
-use Rattle.bb8_core.proofs.Steps.{grants, led, at_view}
 use Rattle.bb8_core.specs.StepBounds.{out_of}
-use Rattle.bb8_core.proofs.StepBounds.{bounded}
+use Rattle.bb8_core.proofs.Fitting.{due_fits}
+use Rattle.bb8_core.proofs.Meets.{meets_retire_ended, meets_retired}
+use Rattle.bb8_core.proofs.Steps.{led, grants}
+use Rattle.bb8_core.proofs.Reaps.{retired_few}
+use Rattle.bb8_core.proofs.Rows.{at_view}
+use Rattle.bb8_core.proofs.Closings.{retire_offers, no_retire_offers}
 use Rattle.bb8_core.proofs.ClosesBelow.{still_below, retired_below}
+use Rattle.bb8_core.proofs.StepBounds.{bounded}
+use Rattle.bb8_core.proofs.ShownReaped.{reap_few}
 use Rattle.bb8_core.proofs.internals.PoolInternals.retire_into.Goals as goal
 
 pub returns-then-self-eq0-clause-step : goal.returns-then-self-eq0-clause-step
-returns-then-self-eq0-clause-step g c = at_view c.self.view_is c.self.invariant.0 (meets_retire_ended c.max-now.ensures c.next_number-self-inside.ensures c.if-self-eq0.true)
+returns-then-self-eq0-clause-step g c = at_view c.self.view_is c.self.invariant.0 c.max-now.ensures (meets_retire_ended c.next_number-self-inside.ensures c.if-self-eq0.true)
 
 pub invariant_of-self : goal.invariant_of-self
 invariant_of-self g c = (
@@ -35,8 +37,8 @@ pub retire-requires : goal.retire-requires
 retire-requires g c = retired_few (view_of c.self.inside) c.self.invariant.0 (omega (arith, c.max-now.ensures)) (rw c.retiring-all.ensures at c.reap-reaped.ensures.ends.2) c.reap-reaped.ensures.numbers
 
 pub returns-clause-step : goal.returns-clause-step
-returns-clause-step g c = at_view c.self.view_is c.self.invariant.0
-    (meets_retired c.self.inside.counters c.max-now.ensures c.next_number-self-inside.ensures c.if-self-eq0.false (rw c.retiring-all.ensures at c.reap-reaped.ensures.ends.2)
+returns-clause-step g c = at_view c.self.view_is c.self.invariant.0 c.max-now.ensures
+    (meets_retired c.self.inside.counters c.next_number-self-inside.ensures c.if-self-eq0.false (rw c.retiring-all.ensures at c.reap-reaped.ensures.ends.2)
     (grants refl c.want-wanted.ensures c.grant-grant.ensures.granted c.grant-grant.ensures.state) refl c.retire.ensures)
 
 pub invariant_of-self-2 : goal.invariant_of-self-2

@@ -1,7 +1,9 @@
-use Rattle.bb8_core.proofs.Words.{◌≡◌, ℕ, sym, ◌∙◌, arith, Figures, Counts, view_of, nat_tests}
+use Rattle.bb8_core.proofs.Words.{arith, sym, ◌∙◌, ℕ, ◌≡◌, Counts, counts, idle, Figures, nat_tests, view_of}
 use Rattle.bb8_ledger.specs.Acts as acts
 use Rattle.bb8_core.proofs.Fitting.{as_shown, shown_fits}
-use Rattle.bb8_core.proofs.Steps.{meets_state, figures_told, led, at_view}
+use Rattle.bb8_core.proofs.Meets.{meets_state}
+use Rattle.bb8_core.proofs.Steps.{led, figures_told}
+use Rattle.bb8_core.proofs.Rows.{at_view}
 use Rattle.bb8_core.proofs.StepBounds.{idle_few}
 use Rattle.bb8_core.proofs.internals.PoolInternals.state.Goals as goal
 
@@ -15,7 +17,7 @@ pub returns-clause-figures : goal.returns-clause-figures
 returns-clause-figures g c = λ l means. told_is _ _ _ _ _ _ c.connections.ensures c.idle_connections.ensures c.statistics.ensures ∙ figures_told (view_of c.self.inside) l (as_shown l (sym c.self.view_is) means)
 
 pub returns-clause-step : goal.returns-clause-step
-returns-clause-step g c = at_view c.self.view_is c.self.invariant.0 (meets_state c.max-self-inside.ensures (λ l means. returns-clause-figures g c l (as_shown l c.self.view_is means)))
+returns-clause-step g c = at_view c.self.view_is c.self.invariant.0 c.max-self-inside.ensures (meets_state (λ l means. returns-clause-figures g c l (as_shown l c.self.view_is means)))
 
 pub invariant_of-self : goal.invariant_of-self
 invariant_of-self g c = (led _ c.args.at.0 acts.State _ (returns-clause-step g c), c.self.invariant.1)

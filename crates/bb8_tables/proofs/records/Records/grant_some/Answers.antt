@@ -1,5 +1,4 @@
-use Rattle.std.proofs.lemmas.Bool.Decides.{nat_tests}
-use Rattle.bb8_tables.proofs.Words.{arith}
+use Rattle.bb8_tables.proofs.Words.{arith, nat_tests}
 use Rattle.bb8_tables.proofs.Approvals.{approve-sizes, approve-raised}
 use Rattle.bb8_tables.proofs.records.Records.grant_some.Goals as goal
 

@@ -1,13 +1,16 @@
-use Rattle.std.proofs.Common.{◌≡◌, false, sym, ◌∙◌}
-use Rattle.bb8_lock.specs.Polls.{is_done}
+use Rattle.std.proofs.Common.{inl, inr, sym}
 use Rattle.bb8_lock.proofs.gets.state.GetState.poll_step.Goals as goal
 
-pub returns : goal.returns
-returns g c =
-    let stands : is_done c.args.self.now.stage ≡ false = sym c.is_done.ensures ∙ c.if-is_done.false in
-    rw stands (rw c.stand.ensures (
-      _,
-      _,
-      c.now-at.ensures,
-      (_, _, c.look-seen.ensures, (_, _, rw c.replace-stage.ensures.value at c.advance-next.ensures, c.end-answer.ensures)),
-    ))
+pub returns-in-Checking : goal.returns-in-Checking
+returns-in-Checking g c = rw (sym c.in-Checking.ensures.value) (rw c.stand.ensures (
+  _,
+  _,
+  c.now-at-in-Checking.ensures,
+  (_, _, c.look.ensures, (_, _, (_, c.release.ensures, c.check-next.ensures), c.end-answer.ensures)),
+))
+
+pub returns-in-Trying : goal.returns-in-Trying
+returns-in-Trying g c = rw (sym c.replace.ensures.value) (rw c.stand-in-Trying.ensures (elim c.in-Trying.is [
+  | inl is ↦ rw is (_, _, c.now-at-in-Trying.ensures, (_, _, c.look-seen.ensures, (_, _, c.retry-next.ensures, c.end-answer-in-Trying.ensures)))
+  | inr is ↦ rw is (_, _, c.now-at-in-Trying.ensures, (_, _, c.look-seen.ensures, (_, _, c.retry-next.ensures, c.end-answer-in-Trying.ensures)))
+]))

@@ -4,6 +4,7 @@ pub returns : goal.returns
 returns g c = rw c.stand.ensures (
   _,
   _,
-  (c.start-first.result, c.deadline.result, c.start-first.new.self, c.start-first.ensures, c.deadline.ensures, c.tried-next.ensures),
-  c.end-answer.ensures,
+  _,
+  c.start-first.ensures,
+  (_, _, _, c.deadline.ensures, c.tried-next.ensures, c.end-answer.ensures),
 )

@@ -1,5 +1,0 @@
-use Rattle.std.proofs.Common.{arith}
-use Rattle.bb8_tables.proofs.records.Records.used.Goals as goal
-
-pub overflow_add-result : goal.overflow_add-result
-overflow_add-result g c = let s = c.self.invariant.sizes in omega arith
