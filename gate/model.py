@@ -48,16 +48,20 @@ def wall(costs, below, processors):
 
 
 def checks():
-    """The checks that run now: process, crate, and minutes of processor time."""
+    """The checks that run now: process, crate, and minutes of processor time with those of its copies,
+    which are no checks of their own."""
+    found, parents = {}, {}
     for place in pathlib.Path("/proc").glob("[0-9]*"):
         try:
             words = (place / "cmdline").read_bytes().decode(errors="replace").split("\0")
             if words[0].endswith("/rattle") and "--crate-name" in words:
                 fields = (place / "stat").read_text().rpartition(")")[2].split()
                 used = sum(map(int, fields[11:15])) / os.sysconf("SC_CLK_TCK") / 60
-                yield (place.name, fields[19]), words[words.index("--crate-name") + 1], used
+                crate = words[words.index("--crate-name") + 1]
+                found[place.name], parents[place.name] = ((place.name, fields[19]), crate, used), fields[1]
         except OSError:
             pass
+    return [check for process, check in found.items() if parents[process] not in found]
 
 
 def measure(command, is_written):
