@@ -12,10 +12,11 @@ ghost use Rattle.std.specs.Prelude.{Some};
 ghost use Rattle.bb8.specs.Permits.{IsBlankOf};
 ghost use Rattle.bb8.specs.Settings.{default_settings};
 
+mod hostile;
 mod rounds;
 
 use bb8::{Builder, Driver, Gate, Memory, PoolCalls, PoolPermits, Runtime, drive, in_threads};
-use bb8_trials::hostile::{GetCounts, Harness, HostilePool};
+use hostile::{Hostile, HostilePool};
 use rounds::{SIZE, Storm, THREADS};
 use std::alloc::Global;
 use std::marker::Brand;
@@ -29,13 +30,6 @@ use std::{env, io};
 
 /// The number of phases.
 const PHASES: u64 = 3;
-
-/// Whether each phase agreed, in order, and whether nothing was left once the pool was dropped.
-#[derive(Drop)]
-struct Agreement {
-    phases: Vec<bool>,
-    nothing_left: bool,
-}
 
 /// Whether the driver is to stop.
 #[derive(Drop)]
@@ -54,12 +48,11 @@ impl Gate for Stop {
     }
 }
 
-/// Runs a phase beside a driver, and returns the threads' counts. The driver has ended then, and
-/// has not found the pool without a handle.
+/// Runs a phase beside a driver, which has ended then, and has not found the pool without a handle.
 fn in_phase<R: Runtime + Threads, L: PoolPermits + 'static>(
     rt: R,
     storm: &Storm<'_, R, L>,
-) -> Result<GetCounts, Memory> {
+) -> Result<(), Memory> {
     let asked = Arc::new(rt.alloc(), AtomicBool::new(false))?;
     let stop = Arc::try_clone(&asked)?;
     let driver = Driver::new(storm.pool)?;
@@ -69,22 +62,20 @@ fn in_phase<R: Runtime + Threads, L: PoolPermits + 'static>(
     let results = in_threads(&rt, THREADS, storm);
     asked.store(true, Ordering::SeqCst);
     let driven = driving.join(&rt);
-    let mut all = GetCounts::new();
     if driven.ended {
-        all.blame();
+        storm.harness.wrong.count();
     }
-    for one in results?.iter() {
-        all.add(one);
-    }
-    Ok(all)
+    results?;
+    Ok(())
 }
 
-/// Runs all phases over one pool.
+/// Runs all phases over one pool. Returns whether each phase agreed, in order, and whether nothing
+/// was left once the pool was dropped.
 fn run<R: Runtime + Threads, L: PoolPermits + 'static>(
     rt: R,
     blank: Blank,
     rounds: u64,
-) -> Result<Agreement, Memory>
+) -> Result<(Vec<bool>, bool), Memory>
     requires { IsBlankOf blank
         (record default_settings {
           max_size = 5;
@@ -96,7 +87,8 @@ fn run<R: Runtime + Threads, L: PoolPermits + 'static>(
         })
         L.name L.parts L.settings }
 {
-    let harness = Harness::new(rt.alloc(), 1, 8, 100)?;
+    let hostile = Hostile::new(rt.alloc(), 1)?;
+    let harness = &*hostile.0;
     let pool: HostilePool<R, L> = Builder::new()
         .max_size(SIZE)
         .min_idle(Some(3))
@@ -104,28 +96,24 @@ fn run<R: Runtime + Threads, L: PoolPermits + 'static>(
         .idle_timeout(Some(Duration::from_nanos(200)))
         .max_lifetime(Some(Duration::from_nanos(2000)))
         .reaper_rate(Duration::from_nanos(100))
-        .error_sink(harness.sink()?)
-        .connection_customizer(harness.customizer()?)
-        .build_unchecked(harness.manager()?, harness.clock()?, rt, blank)?;
+        .error_sink(hostile.clone()?)
+        .connection_customizer(hostile.clone()?)
+        .build_unchecked(hostile.clone()?, hostile.clone()?, rt, blank)?;
     let mut phases = Vec::new(rt.alloc());
-    let mut all = GetCounts::new();
     for phase in 0..PHASES {
         let storm = Storm {
             pool: &pool,
-            harness: &harness,
+            harness,
             rt,
             phase,
             rounds,
         };
-        all.add(&in_phase(rt, &storm)?);
-        let state = pool.state();
-        phases.push(all.agrees(&state) && harness.gauges.are_at_rest(&state))?;
+        in_phase(rt, &storm)?;
+        phases.push(harness.agrees(&pool.state()))?;
     }
     drop(pool);
-    Ok(Agreement {
-        phases,
-        nothing_left: harness.gauges.are_empty(),
-    })
+    let nothing_left = harness.rests_with(0) && Arc::strong_count(&hostile.0) == 1;
+    Ok((phases, nothing_left))
 }
 
 /// Runs the phases and prints a line for each.
@@ -137,25 +125,16 @@ fn main(rt: HostRuntime) -> io::Result<ExitCode> {
         println!(rt; "ROUNDS")?;
         return Ok(ExitCode::FAILURE);
     };
-    let Ok(outcome) = run::<HostRuntime, Brand>(rt, Blank::new(5), rounds) else {
+    let Ok((phases, nothing_left)) = run::<HostRuntime, Brand>(rt, Blank::new(5), rounds) else {
         println!(rt; "no memory")?;
         return Ok(ExitCode::FAILURE);
     };
-    let mut agree = outcome.nothing_left;
-    for (phase, agrees) in outcome.phases.iter().enumerate() {
+    for (phase, agrees) in phases.iter().enumerate() {
         let word = if *agrees { "agree" } else { "differ" };
         println!(rt; "phase {phase}: {THREADS} threads, {rounds} rounds each: the counts {word}")?;
-        agree = agree && *agrees;
     }
-    let word = if outcome.nothing_left {
-        "nothing"
-    } else {
-        "something"
-    };
+    let word = if nothing_left { "nothing" } else { "something" };
     println!(rt; "the pool is dropped: {word} is left")?;
-    Ok(if agree {
-        ExitCode::SUCCESS
-    } else {
-        ExitCode::FAILURE
-    })
+    let is_right = nothing_left && phases.iter().all(|agrees| *agrees);
+    Ok(ExitCode::from(u8::from(!is_right)))
 }

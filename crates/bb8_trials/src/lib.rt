@@ -1,13 +1,13 @@
 //! Helpers of tests of live pools. With them a test's body needs neither conditions nor proofs.
 //!
 //! A test uses its pool by a handle (`LentHandle`, `OwnedHandle`, `Unbuilt`) whose calls have no
-//! clauses. A `Server` opens, checks and breaks connections as its `Board` says; the user callbacks
-//! of `hostile` change their results at every call.
+//! clauses. A `Server` opens, checks and breaks connections as its `Board` says. A `RandomSource`
+//! returns the same numbers in each run.
 #![tactic(auto)]
 
 mod board;
 mod handle;
-pub mod hostile;
+mod source;
 
 pub use board::{
     ALWAYS, ARMED, Board, Course, Errors, LOOKS, Number, OPEN, OneTurn, Refused, SECOND, Server,
@@ -16,3 +16,4 @@ pub use board::{
 pub use handle::{
     Either, LentHandle, OwnedHandle, Polled, Unbuilt, cancel_either, poll_either, sizes,
 };
+pub use source::RandomSource;

@@ -4,7 +4,7 @@ ghost use Rattle.bb8.specs.Permits.{IsBlankOf};
 ghost use Rattle.bb8.specs.Settings.{default_settings};
 
 use super::assert_equal;
-use bb8::{Gets, Moment, PoolCalls, PoolPermits, Runtime, SetClock};
+use bb8::{Gets, Job, Moment, PoolCalls, PoolPermits, Runtime, SetClock, in_threads};
 use bb8_trials::{Board, ServerConnection, ServerPool, builder_on, connection_on, server_on};
 use futures::executor::block_on;
 use futures::test::MockTask;
@@ -14,29 +14,18 @@ use std::process::Abort;
 use std::sync::Arc;
 use std::sync::ledger::Blank;
 use std::test::Fail;
-use std::thread::{self, Threads, join};
+use std::thread::{self, Threads};
 
-/// The job of a test's thread.
-trait TestJob {
-    /// Runs, and returns whether all went as it should.
-    fn run(&self) -> bool;
-}
-
-/// Runs a job on two threads.
-fn twice(rt: &impl Threads, job: &(impl TestJob + Sync)) -> (bool, bool) {
-    join(rt, || job.run(), || job.run())
-}
-
-/// Whether the caller is the only holder of a connection that it just got. It marks the connection
-/// as broken for a moment, so that another holder would see it.
-fn is_alone(connection: &mut ServerConnection) -> bool {
+/// Returns None if the caller is not the only holder of a connection that it just got. It marks the
+/// connection as broken for a moment, so that another holder would see it.
+fn is_alone(connection: &mut ServerConnection) -> Option<()> {
     if connection.is_broken {
-        return false;
+        return None;
     }
     connection.is_broken = true;
     thread::yield_now();
     connection.is_broken = false;
-    true
+    Some(())
 }
 
 /// A thousand rounds. In each the clock moves, a connection is added if there is capacity, the
@@ -52,42 +41,30 @@ struct Mixed<'a, R: Runtime + Abort, L: PoolPermits> {
     rt: R,
 }
 
-impl<R: Runtime + Abort, L: PoolPermits> TestJob for Mixed<'_, R, L> {
-    /// Whether each connection had one holder at a time, and the state kept its bounds.
-    fn run(&self) -> bool {
-        let Ok(task) = MockTask::new(&self.rt) else {
-            return false;
-        };
+impl<R: Runtime + Abort, L: PoolPermits> Job for &Mixed<'_, R, L> {
+    /// None if a connection had two holders at a time, the state was out of bounds, or a call had
+    /// another result than it should.
+    type Output = Option<()>;
+
+    fn run(self, _thread: usize) -> Option<()> {
+        let task = MockTask::new(&self.rt).ok()?;
         for round in 0..1000u64 {
             self.clock.set(Moment(round));
-            let Ok(connection) = connection_on(self.board, round) else {
-                return false;
-            };
-            let _ = self.pool.add(connection);
+            let _ = self.pool.add(connection_on(self.board, round).ok()?);
             let state = self.pool.state();
             if state.connections > self.max_size || state.idle_connections > state.connections {
-                return false;
+                return None;
             }
             let _ = task.poll(&mut self.pool.get());
-            let Ok(Ok(mut guard)) = block_on(&self.rt, self.pool.get()) else {
-                return false;
-            };
-            if !is_alone(&mut guard) {
-                return false;
-            }
+            let mut guard = block_on(&self.rt, self.pool.get()).ok()?.ok()?;
+            is_alone(&mut guard)?;
             drop(guard);
-            let Ok(clone) = self.pool.try_clone() else {
-                return false;
-            };
-            let Ok(Ok(mut guard)) = block_on(&self.rt, clone.get_owned()) else {
-                return false;
-            };
+            let clone = self.pool.try_clone().ok()?;
+            let mut guard = block_on(&self.rt, clone.get_owned()).ok()?.ok()?;
             drop(clone);
-            if !is_alone(&mut guard) {
-                return false;
-            }
+            is_alone(&mut guard)?;
         }
-        true
+        Some(())
     }
 }
 
@@ -117,7 +94,9 @@ fn shares<R: Runtime + Abort + Threads, L: PoolPermits>(
         max_size,
         rt,
     };
-    assert_equal(&rt, twice(&rt, &mixed), (true, true));
+    for result in in_threads(&rt, 2, &mixed)?.iter() {
+        assert_equal(&rt, *result, Some(()));
+    }
     let state = pool.state();
     let statistics = state.statistics;
     assert_equal(&rt, state.connections, state.idle_connections);

@@ -1,10 +1,9 @@
 //! A run in which one request for memory is refused, or all from one on, as `gate/refusals/run`
 //! makes them. It holds with and without refusals.
 
-use super::trial::{Bench, Count, CountRunner, RunnerTrial, SlotPool, slots, try_runner};
-use super::{came_to, lacked_memory};
-use bb8::{PoolCalls, PoolPermits, Runtime};
-use slots::{Phase, RunnerCalls};
+use super::{Bench, CountRunner, RunnerTrial, SlotPool, slots, try_runner};
+use bb8::{PoolCalls, PoolPermits, RunError, Runtime};
+use slots::{Outcome, Phase, RunnerCalls};
 use std::process::Abort;
 
 /// Five jobs on two slots. A submitted job ends with its result, ends for lack of memory, or goes
@@ -17,14 +16,14 @@ impl<R: Runtime + Abort> RunnerTrial<R> for RefusedMemory {
         let rt = bench.rt;
         let mut taken_on: u64 = 0;
         for _ in 0..5 {
-            if let Ok(id) = bench.runner.submit(Count::to(2)) {
+            if let Some(id) = bench.submit(2) {
                 assert_eq!(&rt; id, taken_on);
                 taken_on = taken_on.saturating_add(1);
             }
         }
         let mut ended: u64 = 0;
         for _ in 0..12 {
-            ended = ended.saturating_add(bench.turn(0));
+            ended = ended.saturating_add(bench.turn());
             let state = pool.state();
             let running = bench.runner.running();
             assert!(&rt; running <= 2);
@@ -33,19 +32,22 @@ impl<R: Runtime + Abort> RunnerTrial<R> for RefusedMemory {
                 state.connections as u64
             );
         }
-        let mut results: u64 = 0;
         for id in 0..taken_on {
             match bench.runner.phase(id) {
                 Some(Phase::Ended) => {
-                    let outcome = bench.runner.take(id);
-                    assert!(&rt; lacked_memory(&outcome) || came_to(outcome, 2));
-                    results = results.saturating_add(1);
+                    assert!(&rt;
+                        matches!(
+                            bench.runner.take(id),
+                            Some(Outcome::Done(2) | Outcome::Refused(RunError::Memory))
+                        )
+                    );
+                    ended = ended.wrapping_sub(1);
                 }
                 Some(Phase::Waiting | Phase::Running) => {}
                 None => panic!(&rt; "a job is lost"),
             }
         }
-        assert_eq!(&rt; results, ended);
+        assert_eq!(&rt; ended, 0);
     }
 }
 

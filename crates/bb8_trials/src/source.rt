@@ -1,37 +1,25 @@
 //! Numbers that look random and are the same in each run.
 ghost use Rattle.std.specs.Prelude.{◌<◌, IfSome};
 
-use crate::board::Refused;
-use bb8::Memory;
-use futures::task::Poll;
-use std::alloc::Global;
-use std::sync::Arc;
 use std::sync::atomic::{AtomicU64, Ordering};
 
 /// How far the state moves at each number: 2 to the power of 64, divided by the golden ratio, made
 /// odd.
 const STRIDE: u64 = 0x9e37_79b9_7f4a_7c15;
 
-/// A sequence of numbers that its seed determines, by the rule `splitmix64`. Clones draw from the
-/// same sequence: in one thread it is the same in each run, and across threads the schedule decides
-/// who draws which number. Not for secrets.
+/// A sequence of numbers that its seed determines, by the rule `splitmix64`. If threads share one,
+/// the schedule decides who draws which number. Not for secrets.
 #[derive(Drop)]
 pub struct RandomSource {
-    state: Arc<AtomicU64, Global>,
+    state: AtomicU64,
 }
 
 impl RandomSource {
-    /// Returns the sequence of this seed, from its beginning. Returns `Memory` if memory is
-    /// refused.
-    pub fn new(alloc: Global, seed: u64) -> Result<RandomSource, Memory> {
-        let state = Arc::new(alloc, AtomicU64::new(seed))?;
-        Ok(RandomSource { state })
-    }
-
-    /// Returns a clone of the sequence. Returns `Memory` if there are too many clones to count.
-    pub fn try_clone(&self) -> Result<RandomSource, Memory> {
-        let state = Arc::try_clone(&self.state)?;
-        Ok(RandomSource { state })
+    /// Returns the sequence of this seed, from its beginning.
+    pub fn new(seed: u64) -> RandomSource {
+        RandomSource {
+            state: AtomicU64::new(seed),
+        }
     }
 
     /// Returns the next number of the sequence, of 64 bits.
@@ -49,16 +37,6 @@ impl RandomSource {
             return 0;
         }
         self.next() % bound
-    }
-
-    /// Returns the result of a poll of a check or a preparation: pending in half of the cases, an
-    /// error in an eighth of them.
-    pub(crate) fn poll(&self) -> Poll<Result<(), Refused>> {
-        match self.below(8) {
-            0..=2 => Poll::Ready(Ok(())),
-            3 => Poll::Ready(Err(Refused(self.next()))),
-            _ => Poll::Pending,
-        }
     }
 
     /// Returns an index into a list of this length. Returns None and draws no number if it is
