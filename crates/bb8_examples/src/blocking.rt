@@ -68,14 +68,22 @@ impl<R: Clock + Send + Sync + Drop + 'static> BlockingManager for Files<R> {
     }
 }
 
+/// A pool of files, whose errors are printed.
+pub type FilePool<R, L> = Pool<
+    Blocking<Files<R>>,
+    PrintingSink<R>,
+    NopCustomizer,
+    MachineClock<R>,
+    R,
+    L,
+>;
+
 /// Threads that read files.
 #[derive(Drop)]
-struct Reading<R> {
-    rt: R,
+pub struct Reading<R> {
+    /// The runtime on which they wait.
+    pub rt: R,
 }
-
-/// A pool of files with this error sink.
-pub type FilePool<S, R, L> = Pool<Blocking<Files<R>>, S, NopCustomizer, MachineClock<R>, R, L>;
 
 impl<R: Runtime + Eprint> Service<
     Blocking<Files<R>>,
@@ -86,14 +94,15 @@ impl<R: Runtime + Eprint> Service<
 > for Reading<R> {
     type Output = u64;
 
+    /// The number of threads that read a file.
     type Outcome = u64;
 
-    fn begin<L: PoolPermits>(&self, _pool: &FilePool<PrintingSink<R>, R, L>) -> Result<(), u64> {
+    fn begin<L: PoolPermits>(&self, _pool: &FilePool<R, L>) -> Result<(), u64> {
         Ok(())
     }
 
     /// Uses the connection in this thread, so its calls may block.
-    fn run<L: PoolPermits>(&self, pool: &FilePool<PrintingSink<R>, R, L>, _thread: usize) -> u64 {
+    fn run<L: PoolPermits>(&self, pool: &FilePool<R, L>, _thread: usize) -> u64 {
         let Ok(mut file) = pool.get_blocking() else {
             return 0;
         };
@@ -102,7 +111,7 @@ impl<R: Runtime + Eprint> Service<
         file.reads.min(1)
     }
 
-    fn end<L: PoolPermits>(&self, _pool: &FilePool<PrintingSink<R>, R, L>, results: &[u64]) -> u64 {
+    fn end<L: PoolPermits>(&self, _pool: &FilePool<R, L>, results: &[u64]) -> u64 {
         let mut sum: u64 = 0;
         for one in results {
             sum = sum.saturating_add(*one);

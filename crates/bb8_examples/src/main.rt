@@ -10,28 +10,15 @@ mod service;
 mod settings;
 
 use crate::blocking::{Files, reads};
-use crate::errors::{Ended, ends};
+use crate::errors::ends;
 use crate::service::print_visits;
 use crate::settings::{SETTINGS, served};
 use bb8::RunError;
 use std::io;
 
-/// Returns the outcome of a get in words.
-fn word_of(ended: Ended) -> &'static str {
-    match ended {
-        Ended::Served => "served",
-        Ended::TimedOut => "timed out",
-        Ended::Pool => "refused by the pool",
-    }
-}
-
 fn main(rt: HostRuntime) -> io::Result<()> {
     match ends(rt) {
-        Ok((first, second)) => println!(rt;
-            "errors: {}, then {}",
-            word_of(first),
-            word_of(second)
-        )?,
+        Ok([first, second]) => println!(rt; "errors: {first}, then {second}")?,
         Err(_) => println!(rt; "errors: no pool")?,
     }
     for (size, idle) in SETTINGS {

@@ -1,8 +1,8 @@
 //! A driver that sleeps while it has nothing to do.
 
-use super::{Bench, MeteredClock, Served, TRIALS, Work, measured, nanos, serve};
+use super::{Bench, Metered, Served, Times, Work, assert_below, measured, nanos, serve};
 use bb8::{Gets, PoolCalls, PoolPermits, Runtime};
-use bb8_trials::{Board, ServerPool, builder_on};
+use bb8_trials::{Board, builder_on};
 use futures::test::MockTask;
 use std::test::Fail;
 use std::thread::{self, Threads};
@@ -17,12 +17,7 @@ struct Resting {
 impl<R: Runtime + CpuClock> Work<R> for Resting {
     /// The nanoseconds that the get took, the turns that the driver made while the thread rested,
     /// and the processor time that they took.
-    fn run<L: PoolPermits>(
-        &self,
-        bench: &Bench<R>,
-        pool: &ServerPool<MeteredClock<R>, R, L>,
-        _thread: usize,
-    ) -> Option<[u64; 3]> {
+    fn run<L: PoolPermits>(&self, bench: &Bench<R>, pool: &Metered<R, L>, _thread: usize) -> Times {
         let (rt, meter) = (&bench.rt, &*bench.meter);
         let task = MockTask::new(rt).ok()?;
         meter.readings.comes_to(meter.readings.get(), false);
@@ -61,16 +56,11 @@ fn serve_resting<R: Runtime + CpuClock + Threads>(
 /// 10 milliseconds of a processor.
 #[test]
 fn idle_driver_sleeps(rt: HostRuntime) -> Result<(), Fail> {
-    let mut least = u64::MAX;
-    for _ in 0..TRIALS {
-        if least >= 10_000_000 {
-            let ([_, turns, used], _) = serve_resting(rt, Duration::from_secs(1))?;
-            assert!(&rt; turns < 60, "{turns} turns");
-            least = least.min(used);
-        }
-    }
-    assert!(&rt; least < 10_000_000, "{least} nanoseconds");
-    Ok(())
+    assert_below(&rt, 10_000_000, || {
+        let ([_, turns, used], _) = serve_resting(rt, Duration::from_secs(1))?;
+        assert!(&rt; turns < 60, "{turns} turns");
+        Ok(used)
+    })
 }
 
 /// A driver that nothing woke would make its next turn some 50 milliseconds after the previous one,
@@ -78,15 +68,8 @@ fn idle_driver_sleeps(rt: HostRuntime) -> Result<(), Fail> {
 /// the pool.
 #[test]
 fn grant_and_end_wake_the_driver(rt: HostRuntime) -> Result<(), Fail> {
-    let (mut first, mut last) = (u64::MAX, u64::MAX);
-    for _ in 0..TRIALS {
-        if first.max(last) >= 20_000_000 {
-            let ([served, ..], ended) = serve_resting(rt, Duration::from_millis(1))?;
-            first = first.min(served);
-            last = last.min(ended);
-        }
-    }
-    assert!(&rt; first < 20_000_000, "{first} nanoseconds");
-    assert!(&rt; last < 20_000_000, "{last} nanoseconds");
-    Ok(())
+    assert_below(&rt, 20_000_000, || {
+        let ([served, ..], ended) = serve_resting(rt, Duration::from_millis(1))?;
+        Ok(served.max(ended))
+    })
 }

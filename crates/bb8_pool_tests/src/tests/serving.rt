@@ -1,9 +1,9 @@
 //! A service over a pool whose first connection cannot be opened, or is opened late; and one whose
 //! driver must make turns, and end.
 
-use super::{Bench, MeteredClock, TRIALS, Work, assert_equal, measured, nanos, serve};
+use super::{Bench, Metered, Times, Work, assert_below, assert_equal, measured, nanos, serve};
 use bb8::{PoolCalls, PoolPermits, Runtime};
-use bb8_trials::{Board, Course, SECOND, ServerPool, builder_on};
+use bb8_trials::{Board, Course, SECOND, builder_on};
 use std::mem;
 use std::sync::Arc;
 use std::test::Fail;
@@ -18,12 +18,7 @@ struct TwoAtOnce {
 }
 
 impl<R: Runtime + CpuClock> Work<R> for TwoAtOnce {
-    fn run<L: PoolPermits>(
-        &self,
-        bench: &Bench<R>,
-        pool: &ServerPool<MeteredClock<R>, R, L>,
-        _thread: usize,
-    ) -> Option<[u64; 3]> {
+    fn run<L: PoolPermits>(&self, bench: &Bench<R>, pool: &Metered<R, L>, _thread: usize) -> Times {
         let first = pool.get_owned_blocking().ok()?;
         let second = pool.get_owned_blocking().ok()?;
         let numbers = [first.number, second.number, 0];
@@ -63,22 +58,18 @@ fn first_connections_are_awaited_asleep(rt: HostRuntime) -> Result<(), Fail> {
     let board = Board::new(rt.alloc())?;
     for course in [Course::Fails, Course::Passes] {
         board.opening.set(course);
-        let mut least = u64::MAX;
-        for _ in 0..TRIALS {
-            if least >= SECOND / 5 {
-                let ready = nanos(rt.monotonic()).saturating_add(SECOND / 2);
-                board.ready.set(ready);
-                let builder = builder_on(&board)?
-                    .max_size(2)
-                    .min_idle(Some(1))
-                    .connection_timeout(Duration::from_secs(1));
-                let served = serve(rt, &board, builder, 1, TwoAtOnce { keeps: false })?;
-                assert_equal(&rt, served.answer.is_ok(), course == Course::Passes);
-                assert!(&rt; served.lasted > SECOND / 4, "{} nanoseconds", served.lasted);
-                least = least.min(served.used);
-            }
-        }
-        assert!(&rt; least < SECOND / 5, "{least} nanoseconds");
+        assert_below(&rt, SECOND / 5, || {
+            let ready = nanos(rt.monotonic()).saturating_add(SECOND / 2);
+            board.ready.set(ready);
+            let builder = builder_on(&board)?
+                .max_size(2)
+                .min_idle(Some(1))
+                .connection_timeout(Duration::from_secs(1));
+            let served = serve(rt, &board, builder, 1, TwoAtOnce { keeps: false })?;
+            assert_equal(&rt, served.answer.is_ok(), course == Course::Passes);
+            assert!(&rt; served.lasted > SECOND / 4, "{} nanoseconds", served.lasted);
+            Ok(served.used)
+        })?;
     }
     Ok(())
 }

@@ -1,8 +1,8 @@
 //! Threads that wait asleep.
 
-use super::{Bench, MeteredClock, Served, TRIALS, Work, measured, nanos, serve};
+use super::{Bench, Metered, Served, Times, Work, assert_below, measured, nanos, serve};
 use bb8::{PoolCalls, PoolPermits, RunError, Runtime};
-use bb8_trials::{Board, Course, Number, ServerPool, builder_on};
+use bb8_trials::{Board, Course, Either, Number, builder_on};
 use std::test::Fail;
 use std::thread::{self, Threads};
 use std::time::{Clock, CpuClock, Duration};
@@ -44,38 +44,10 @@ struct Waiting {
     served: Number,
 }
 
-/// Measures a wait. (A trait because of *trait-for-threads*.)
-trait Ends<R> {
-    /// Returns the measurements of a get that ended just now, and holds its connection again if the
-    /// trial says so. None if it had another result than it should.
-    fn ended(&self, bench: &Bench<R>, before: u64, is_right: bool) -> Option<[u64; 3]>;
-}
-
-impl<R: Runtime + CpuClock> Ends<R> for Waiting {
-    fn ended(&self, bench: &Bench<R>, before: u64, is_right: bool) -> Option<[u64; 3]> {
-        let rt = &bench.rt;
-        let used = nanos(rt.thread_cpu_time()).saturating_sub(before);
-        let after = nanos(rt.monotonic()).saturating_sub(bench.meter.caused.get());
-        if self.trial.again && self.served.count() == 1 {
-            thread::sleep(rt, Duration::from_millis(self.trial.hold));
-        }
-        if is_right {
-            Some([used, after, 0])
-        } else {
-            None
-        }
-    }
-}
-
 impl<R: Runtime + CpuClock> Work<R> for Waiting {
     /// The processor time that a thread used while it waited, and how long after the cause its get
     /// ended, in nanoseconds.
-    fn run<L: PoolPermits>(
-        &self,
-        bench: &Bench<R>,
-        pool: &ServerPool<MeteredClock<R>, R, L>,
-        thread: usize,
-    ) -> Option<[u64; 3]> {
+    fn run<L: PoolPermits>(&self, bench: &Bench<R>, pool: &Metered<R, L>, thread: usize) -> Times {
         let rt = &bench.rt;
         let trial = self.trial;
         let hold = Duration::from_millis(trial.hold);
@@ -97,18 +69,21 @@ impl<R: Runtime + CpuClock> Work<R> for Waiting {
             thread::sleep(rt, Duration::from_millis(trial.apart));
         }
         let before = nanos(rt.thread_cpu_time());
-        if trial.closes {
-            let RunError::TimedOut = pool.get_blocking().err()? else {
-                return None;
-            };
-            return self.ended(bench, before, true);
+        let got = if trial.owned {
+            pool.get_owned_blocking().map(|guard| Either::Owned(guard))
+        } else {
+            pool.get_blocking().map(|guard| Either::Lent(guard))
+        };
+        let used = nanos(rt.thread_cpu_time()).saturating_sub(before);
+        let after = nanos(rt.monotonic()).saturating_sub(bench.meter.caused.get());
+        if trial.again && self.served.count() == 1 {
+            thread::sleep(rt, hold);
         }
-        if trial.owned {
-            let got = pool.get_owned_blocking();
-            return self.ended(bench, before, got.is_ok());
-        }
-        let got = pool.get_blocking();
-        self.ended(bench, before, got.is_ok())
+        let is_right = match got {
+            Ok(_) => !trial.closes,
+            Err(error) => trial.closes && error == RunError::TimedOut,
+        };
+        is_right.then_some([used, after, 0])
     }
 }
 
@@ -136,15 +111,7 @@ fn waiting_threads_sleep(rt: HostRuntime) -> Result<(), Fail> {
         again: true,
         ..ONE
     };
-    let mut least = u64::MAX;
-    for _ in 0..TRIALS {
-        if least >= 10_000_000 {
-            let [used, ..] = wait_in(rt, trial)?;
-            least = least.min(used);
-        }
-    }
-    assert!(&rt; least < 10_000_000, "{least} nanoseconds");
-    Ok(())
+    assert_below(&rt, 10_000_000, || Ok(wait_in(rt, trial)?[0]))
 }
 
 /// The trials of `return_wakes_a_waiter`.
@@ -173,14 +140,7 @@ const WAKING: [Trial; 4] = [
 #[test]
 fn return_wakes_a_waiter(rt: HostRuntime) -> Result<(), Fail> {
     for trial in WAKING {
-        let mut least = u64::MAX;
-        for _ in 0..TRIALS {
-            if least >= 20_000_000 {
-                let [_, after, _] = wait_in(rt, trial)?;
-                least = least.min(after);
-            }
-        }
-        assert!(&rt; least < 20_000_000, "{least} nanoseconds");
+        assert_below(&rt, 20_000_000, || Ok(wait_in(rt, trial)?[1]))?;
     }
     Ok(())
 }
@@ -190,13 +150,8 @@ fn return_wakes_a_waiter(rt: HostRuntime) -> Result<(), Fail> {
 struct InVain;
 
 impl<R: Runtime + CpuClock> Work<R> for InVain {
-    /// How many milliseconds each wait took at least.
-    fn run<L: PoolPermits>(
-        &self,
-        bench: &Bench<R>,
-        pool: &ServerPool<MeteredClock<R>, R, L>,
-        _thread: usize,
-    ) -> Option<[u64; 3]> {
+    /// How many nanoseconds each wait took.
+    fn run<L: PoolPermits>(&self, bench: &Bench<R>, pool: &Metered<R, L>, _thread: usize) -> Times {
         let _first = pool.get_owned_blocking().ok()?;
         let begun = nanos(bench.rt.monotonic());
         let RunError::TimedOut = pool.get_blocking().err()? else {
@@ -209,8 +164,8 @@ impl<R: Runtime + CpuClock> Work<R> for InVain {
         };
         let ended = nanos(bench.rt.monotonic());
         Some([
-            between.saturating_sub(begun) / 1_000_000,
-            ended.saturating_sub(between) / 1_000_000,
+            between.saturating_sub(begun),
+            ended.saturating_sub(between),
             0,
         ])
     }
@@ -220,20 +175,22 @@ impl<R: Runtime + CpuClock> Work<R> for InVain {
 /// thread that always slept for 50 milliseconds would come 20 and 30 milliseconds late.
 #[test]
 fn wait_ends_at_its_deadline(rt: HostRuntime) -> Result<(), Fail> {
-    let (mut pools, mut own) = (u64::MAX, u64::MAX);
-    for _ in 0..TRIALS {
-        if pools >= 45 || own >= 145 {
-            let board = Board::new(rt.alloc())?;
-            let builder = builder_on(&board)?
-                .max_size(1)
-                .min_idle(Some(1))
-                .connection_timeout(Duration::from_millis(30));
-            let Served { answer, .. } = serve(rt, &board, builder, 1, InVain)?;
-            let [first, second, _] = measured(answer)?;
-            (pools, own) = (pools.min(first), own.min(second));
-        }
-    }
-    assert!(&rt; (30..45).contains(&pools), "{pools} milliseconds");
-    assert!(&rt; (120..145).contains(&own), "{own} milliseconds");
-    Ok(())
+    assert_below(&rt, 15_000_000, || {
+        let board = Board::new(rt.alloc())?;
+        let builder = builder_on(&board)?
+            .max_size(1)
+            .min_idle(Some(1))
+            .connection_timeout(Duration::from_millis(30));
+        let Served { answer, .. } = serve(rt, &board, builder, 1, InVain)?;
+        let [pools, own, _] = measured(answer)?;
+        assert!(&rt;
+            pools >= 30_000_000 && own >= 120_000_000,
+            "{pools} and {own} nanoseconds"
+        );
+        Ok(
+            pools
+                .saturating_sub(30_000_000)
+                .max(own.saturating_sub(130_000_000)),
+        )
+    })
 }
