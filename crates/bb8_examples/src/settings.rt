@@ -22,11 +22,6 @@ pub fn served<R: Runtime + Threads + Eprint>(
     if !Config::from(&builder).is_lawful() {
         return None;
     }
-    Some(builder.serve(
-        Blocking(Files::up(rt)),
-        MachineClock(rt),
-        rt,
-        4,
-        &Reading { rt },
-    ))
+    let reading = Reading { rt };
+    Some(builder.serve(Blocking(Files::up(rt)), MachineClock(rt), rt, 4, &reading))
 }

@@ -8,7 +8,7 @@ use bb8_live_scripts::{LineAnswer, run};
 use bb8_runner::fault::Fault;
 use bb8_runner::lines::script_of;
 use bb8_runner::text::output;
-use bb8_trials::hostile::RandomSource;
+use bb8_trials::RandomSource;
 use std::alloc::Global;
 use std::fmt::Write;
 use std::mem;
@@ -87,20 +87,21 @@ fn pick(source: &RandomSource, words: &[&'static str]) -> &'static str {
 fn config_line(alloc: Global, source: &RandomSource) -> Result<String, Fault> {
     let size = source.below(4).saturating_add(1);
     let idle = source.below(size.saturating_add(1));
-    let checks = [
-        "on strategy=fifo",
-        "on strategy=lifo test_after=150",
-        "off strategy=lifo",
-    ];
-    let check = pick(source, &checks);
+    let check = match source.below(3) {
+        0 => "on strategy=fifo",
+        1 => "on strategy=lifo test_after=150",
+        _ => "off strategy=lifo",
+    };
     let times = pick(source, &["idle=500 lifetime=none", "lifetime=2000"]);
-    let line = format!(in alloc; "config max_size={size} min_idle={idle} check={check} {times}")?;
-    Ok(format!(in alloc; "{line} timeout=1000 reaper=300 retry=off")?)
+    Ok(format!(in alloc;
+        "config max_size={size} min_idle={idle} check={check} {times} \
+        timeout=1000 reaper=300 retry=off"
+    )?)
 }
 
 impl Writer {
     fn new(alloc: Global, seed: u64) -> Result<Writer, Fault> {
-        let source = RandomSource::new(alloc, seed)?;
+        let source = RandomSource::new(seed);
         let line = config_line(alloc, &source)?;
         let Ok(script) = script_of(alloc, &[line.as_bytes()]) else {
             return Err(Fault::Read);
@@ -180,11 +181,8 @@ impl Writer {
             false => Stage::Fresh,
         };
         self.put(n, Caller { stage, owned });
-        self.say(
-            if owned { "own" } else { "get" },
-            n as u64,
-            LineAnswer::Done,
-        )
+        let verb = if owned { "own" } else { "get" };
+        self.say(verb, n as u64, LineAnswer::Done)
     }
 
     /// Gives a get up, if it has not ended.
@@ -213,14 +211,19 @@ impl Writer {
         Some(number)
     }
 
-    /// Returns the connection of this number.
-    fn named(&self, number: u64) -> Named {
-        let found = self.named.iter().find(|named| named.number == number);
-        found.copied().unwrap_or(Named {
+    /// Gives a connection its number in the script.
+    fn name(&mut self, number: u64, name: u64) {
+        let _ = self.named.push(Named {
             number,
-            name: 0,
+            name,
             checks: 0,
-        })
+        });
+    }
+
+    /// Returns the name of the connection of this number, and how many checks of it began.
+    fn named(&self, number: u64) -> (u64, u64) {
+        let found = self.named.iter().find(|named| named.number == number);
+        found.map_or((0, 0), |named| (named.name, named.checks))
     }
 
     /// Polls a get once. Returns its next stage and the result. A closed pool serves none.
@@ -247,8 +250,8 @@ impl Writer {
         let stage = Stage::Begun(get, deadline);
         match served {
             Some(number) => {
-                let answer = LineAnswer::Served(self.named(number).name);
-                (Stage::Served(number), answer)
+                let (name, _) = self.named(number);
+                (Stage::Served(number), LineAnswer::Served(name))
             }
             None if now < deadline => (stage, LineAnswer::Pending),
             None => {
@@ -280,7 +283,7 @@ impl Writer {
         let (verb, answer) = if self.source.below(6) == 0 {
             self.apply(Act::Detach(number));
             self.keep(n);
-            let Named { name, checks, .. } = self.named(number);
+            let (name, checks) = self.named(number);
             ("detach", LineAnswer::Connection((name, checks, 0)))
         } else {
             let broken = self.is_broken();
@@ -331,11 +334,7 @@ impl Writer {
             if let Answer::Claimed(Some(number)) = self.apply(Act::Claim) {
                 self.begun = self.begun.saturating_add(1);
                 let _ = self.tasks.push(number);
-                let _ = self.named.push(Named {
-                    number,
-                    name: self.begun,
-                    checks: 0,
-                });
+                self.name(number, self.begun);
             }
         }
         let polled = if is_open { self.tasks.len() as u64 } else { 0 };
@@ -372,11 +371,7 @@ impl Writer {
         let answer = match self.apply(Act::Add(broken)) {
             Answer::Added(number, _) => {
                 self.kept[GETS] = false;
-                let _ = self.named.push(Named {
-                    number,
-                    name,
-                    checks: 0,
-                });
+                self.name(number, name);
                 LineAnswer::Added
             }
             Answer::Broken => LineAnswer::Broken(name),
@@ -392,11 +387,9 @@ impl Writer {
             _ => ("retire", Act::Retire),
         };
         self.apply(act);
-        let (_, is_open) = self.look();
-        let answer = if is_open {
-            LineAnswer::No
-        } else {
-            LineAnswer::Yes
+        let answer = match self.look() {
+            (_, true) => LineAnswer::No,
+            (_, false) => LineAnswer::Yes,
         };
         writeln!(self.text, "{verb}")?;
         self.say("is_closed", 0, answer)
