@@ -65,14 +65,16 @@ struct Meter {
     caused: Number,
 }
 
-/// The machine's clock, whose readings are counted, and take longer if a trial says so.
-#[derive(Drop)]
-struct MeteredClock<R> {
+/// What the threads of a trial share. It is the clock of their pool, too: the machine's, whose
+/// readings are counted, and take longer if a trial says so.
+#[derive(Clone, Drop)]
+struct Bench<R> {
     rt: R,
+    board: Arc<Board, Global>,
     meter: Arc<Meter, Global>,
 }
 
-impl<R: Runtime + CpuClock> Clock for MeteredClock<R> {
+impl<R: Runtime + CpuClock> Clock for Bench<R> {
     fn now(&self) -> Moment {
         self.meter.readings.count();
         self.meter.used.set(nanos(self.rt.thread_cpu_time()));
@@ -81,16 +83,8 @@ impl<R: Runtime + CpuClock> Clock for MeteredClock<R> {
     }
 }
 
-/// What the threads of a trial share.
-#[derive(Drop)]
-struct Bench<R> {
-    rt: R,
-    board: Arc<Board, Global>,
-    meter: Arc<Meter, Global>,
-}
-
 /// A pool on such a clock.
-type Metered<R, L> = ServerPool<MeteredClock<R>, R, L>;
+type Metered<R, L> = ServerPool<Bench<R>, R, L>;
 
 /// Three measurements of a thread; None if a get had another result than it should.
 type Times = Option<[u64; 3]>;
@@ -108,7 +102,7 @@ struct Working<R, W> {
     work: W,
 }
 
-impl<R: Runtime + CpuClock, W: Work<R>> Service<Server, Errors, NopCustomizer, MeteredClock<R>, R>
+impl<R: Runtime + CpuClock, W: Work<R>> Service<Server, Errors, NopCustomizer, Bench<R>, R>
     for Working<R, W> {
     type Output = Times;
 
@@ -145,11 +139,13 @@ struct Served {
     used: u64,
 }
 
-/// Returns the measurements; fails if a get had another result than it should.
-fn measured(answer: Result<Times, RunError<Refused>>) -> Result<[u64; 3], Fail> {
-    match answer {
-        Ok(Some(measured)) => Ok(measured),
-        _ => Err(Fail::new("a get had another result than it should")),
+impl Served {
+    /// Returns the measurements; fails if a get had another result than it should.
+    fn measured(&self) -> Result<[u64; 3], Fail> {
+        match self.answer {
+            Ok(Some(measured)) => Ok(measured),
+            _ => Err(Fail::new("a get had another result than it should")),
+        }
     }
 }
 
@@ -174,10 +170,7 @@ fn serve<R: Runtime + CpuClock + Threads, W: Work<R> + Drop>(
         board: Arc::try_clone(board)?,
         meter: Arc::new(rt.alloc(), meter)?,
     };
-    let clock = MeteredClock {
-        rt,
-        meter: Arc::try_clone(&bench.meter)?,
-    };
+    let clock = bench.clone()?;
     let service = Working { bench, work };
     let (begun, idle) = (nanos(rt.monotonic()), nanos(rt.thread_cpu_time()));
     let answer = builder.serve(server_on(board)?, clock, rt, threads, &service);

@@ -33,14 +33,12 @@ const PHASES: u64 = 3;
 
 /// Whether the driver is to stop.
 #[derive(Drop)]
-struct Stop {
-    asked: Arc<AtomicBool, Global>,
-}
+struct Stop(Arc<AtomicBool, Global>);
 
 impl Gate for Stop {
     fn pause(&mut self) -> bool {
         thread::yield_now();
-        !self.asked.load(Ordering::SeqCst)
+        !self.0.load(Ordering::SeqCst)
     }
 
     fn longest(&self) -> Duration {
@@ -54,9 +52,8 @@ fn in_phase<R: Runtime + Threads, L: PoolPermits + 'static>(
     storm: &Storm<'_, R, L>,
 ) -> Result<(), Memory> {
     let asked = Arc::new(rt.alloc(), AtomicBool::new(false))?;
-    let stop = Arc::try_clone(&asked)?;
-    let driver = Driver::new(storm.pool)?;
-    let Ok(driving) = drive(&rt, driver, Stop { asked: stop }) else {
+    let stop = Stop(Arc::try_clone(&asked)?);
+    let Ok(driving) = drive(&rt, Driver::new(storm.pool)?, stop) else {
         return Err(Memory);
     };
     let results = in_threads(&rt, THREADS, storm);
@@ -65,8 +62,7 @@ fn in_phase<R: Runtime + Threads, L: PoolPermits + 'static>(
     if driven.ended {
         storm.harness.wrong.count();
     }
-    results?;
-    Ok(())
+    results.map(|_| ())
 }
 
 /// Runs all phases over one pool. Returns whether each phase agreed, in order, and whether nothing

@@ -23,11 +23,6 @@ fn is_send_sync(_rt: HostRuntime) {
     is_shared::<ServerPool<SetClock, HostRuntime, Brand>>();
 }
 
-/// Returns the result of a run of one turn.
-fn after_a_turn(ended: bool) -> Driven {
-    Driven { turns: 1, ended }
-}
-
 /// A driver's thread hangs in the poll of an attempt. Meanwhile `state` returns in the test's own
 /// thread, and another driver opens the connection that a second get requests, which serves the
 /// first get. Once the pool is dropped, a turn of the other driver in a thread ends its run.
@@ -61,7 +56,8 @@ fn answers_meanwhile<R: Runtime + Abort + Threads, L: PoolPermits + 'static>(
     assert!(&rt; matches!(task.poll(&mut first), Poll::Ready(Ok(_))));
     assert_equal(&rt, pool.state().connections, 1);
     board.stage.set(OPEN);
-    assert_equal(&rt, thread.join(&rt), after_a_turn(false));
+    let Driven { turns, ended } = thread.join(&rt);
+    assert_equal(&rt, (turns, ended), (1, false));
     assert_equal(&rt, (pool.state().connections, board.errors.get()), (2, 0));
     drop(first);
     drop(second);
@@ -69,7 +65,8 @@ fn answers_meanwhile<R: Runtime + Abort + Threads, L: PoolPermits + 'static>(
     let Ok(thread) = drive(&rt, other, OneTurn) else {
         panic!(&rt; "no thread");
     };
-    assert_equal(&rt, thread.join(&rt), after_a_turn(true));
+    let Driven { turns, ended } = thread.join(&rt);
+    assert_equal(&rt, (turns, ended), (1, true));
     Ok(())
 }
 

@@ -1,6 +1,6 @@
 //! A driver that sleeps while it has nothing to do.
 
-use super::{Bench, Metered, Served, Times, Work, assert_below, measured, nanos, serve};
+use super::{Bench, Metered, Times, Work, assert_below, nanos, serve};
 use bb8::{Gets, PoolCalls, PoolPermits, Runtime};
 use bb8_trials::{Board, builder_on};
 use futures::test::MockTask;
@@ -48,8 +48,8 @@ fn serve_resting<R: Runtime + CpuClock + Threads>(
 ) -> Result<([u64; 3], u64), Fail> {
     let board = Board::new(rt.alloc())?;
     let builder = builder_on(&board)?.max_size(1);
-    let Served { answer, ended, .. } = serve(rt, &board, builder, 1, Resting { rest })?;
-    Ok((measured(answer)?, ended))
+    let served = serve(rt, &board, builder, 1, Resting { rest })?;
+    Ok((served.measured()?, served.ended))
 }
 
 /// In a second with nothing to do a service's driver makes fewer than 60 turns, and uses less than

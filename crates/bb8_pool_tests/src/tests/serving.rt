@@ -1,7 +1,7 @@
 //! A service over a pool whose first connection cannot be opened, or is opened late; and one whose
 //! driver must make turns, and end.
 
-use super::{Bench, Metered, Times, Work, assert_below, assert_equal, measured, nanos, serve};
+use super::{Bench, Metered, Times, Work, assert_below, assert_equal, nanos, serve};
 use bb8::{PoolCalls, PoolPermits, Runtime};
 use bb8_trials::{Board, Course, SECOND, builder_on};
 use std::mem;
@@ -44,7 +44,7 @@ fn driver_of_a_service_turns_on_and_ends(rt: HostRuntime) -> Result<(), Fail> {
             .max_size(2)
             .connection_timeout(Duration::from_millis(500));
         let served = serve(rt, &board, builder, 1, TwoAtOnce { keeps })?;
-        assert_equal(&rt, measured(served.answer)?, [1, 2, 0]);
+        assert_equal(&rt, served.measured()?, [1, 2, 0]);
         assert!(&rt; keeps || Arc::try_unwrap(board).is_ok());
     }
     Ok(())

@@ -1,6 +1,6 @@
 //! Threads that wait asleep.
 
-use super::{Bench, Metered, Served, Times, Work, assert_below, measured, nanos, serve};
+use super::{Bench, Metered, Times, Work, assert_below, nanos, serve};
 use bb8::{PoolCalls, PoolPermits, RunError, Runtime};
 use bb8_trials::{Board, Course, Either, Number, builder_on};
 use std::test::Fail;
@@ -96,8 +96,7 @@ fn wait_in<R: Runtime + CpuClock + Threads>(rt: R, trial: Trial) -> Result<[u64;
         held: Number::new(0),
         served: Number::new(0),
     };
-    let Served { answer, .. } = serve(rt, &board, builder, trial.threads, work)?;
-    measured(answer)
+    serve(rt, &board, builder, trial.threads, work)?.measured()
 }
 
 /// Four threads wait for a second; three of them are woken in between and wait for one more second.
@@ -181,8 +180,7 @@ fn wait_ends_at_its_deadline(rt: HostRuntime) -> Result<(), Fail> {
             .max_size(1)
             .min_idle(Some(1))
             .connection_timeout(Duration::from_millis(30));
-        let Served { answer, .. } = serve(rt, &board, builder, 1, InVain)?;
-        let [pools, own, _] = measured(answer)?;
+        let [pools, own, _] = serve(rt, &board, builder, 1, InVain)?.measured()?;
         assert!(&rt;
             pools >= 30_000_000 && own >= 120_000_000,
             "{pools} and {own} nanoseconds"

@@ -1,4 +1,4 @@
-use Rattle.bb8_pool_tests.proofs.tests.refusals.live.runs.Given as goal
+use Rattle.bb8_pool_tests.proofs.tests.refusals.runs.Given as goal
 
 abbrev pub ghosts-run_on-L-Ledger : goal.ghosts-run_on-L-Ledger
 ghosts-run_on-L-Ledger g a = record { name = a.blank.name; parts = a.blank.parts }
