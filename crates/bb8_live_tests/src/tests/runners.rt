@@ -162,12 +162,18 @@ impl<R: Runtime + Abort> RunnerTrial<R> for Turns {
         let found = state.statistics;
         let gets = [found.get_started, found.get_direct, found.get_waited];
         assert!(&rt; sizes(state) == (connections, idle));
-        assert_eq!(&rt; (gets, found.connections_created), (wanted, u64::from(connections)));
+        assert_eq!(&rt;
+            (gets, found.connections_created),
+            (wanted, u64::from(connections))
+        );
         drop(bench.runner);
         let state = PoolCalls::state(pool);
         assert!(&rt; sizes(state) == (connections, connections));
         let found = state.statistics;
-        assert_eq!(&rt; (found.get_cancelled, found.pending_gets()), (self.cancelled, 0));
+        assert_eq!(&rt;
+            (found.get_cancelled, found.pending_gets()),
+            (self.cancelled, 0)
+        );
     }
 }
 
