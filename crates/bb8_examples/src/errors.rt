@@ -7,12 +7,15 @@ use bb8::{
 use std::thread::Threads;
 use std::time::Duration;
 
-/// Returns the outcome of a get in words. A get that is refused had no memory or no number.
-fn outcome_of<G>(got: &Result<G, RunError<Down>>) -> &'static str {
-    match got {
-        Ok(_guard) => "served",
-        Err(RunError::TimedOut) => "timed out",
-        Err(_) => "refused by the pool",
+/// The outcomes of two gets in words.
+pub type Outcomes = (&'static str, &'static str);
+
+/// Returns in words why a get was not served.
+fn cause_of(error: RunError<Down>) -> &'static str {
+    match error {
+        RunError::TimedOut => "timed out",
+        // It had no memory or no number.
+        _ => "refused by the pool",
     }
 }
 
@@ -29,24 +32,30 @@ impl<R: Runtime + Eprint> Service<
 > for Twice {
     type Output = ();
 
-    type Outcome = [&'static str; 2];
+    type Outcome = Outcomes;
 
-    fn begin<L: PoolPermits>(&self, _pool: &FilePool<R, L>) -> Result<(), [&'static str; 2]> {
+    fn begin<L: PoolPermits>(&self, _pool: &FilePool<R, L>) -> Result<(), Outcomes> {
         Ok(())
     }
 
     fn run<L: PoolPermits>(&self, _pool: &FilePool<R, L>, _thread: usize) {}
 
-    fn end<L: PoolPermits>(&self, pool: &FilePool<R, L>, _results: &[()]) -> [&'static str; 2] {
+    fn end<L: PoolPermits>(&self, pool: &FilePool<R, L>, _results: &[()]) -> Outcomes {
         let first = pool.get_blocking();
-        let second = pool.get_blocking();
-        [outcome_of(&first), outcome_of(&second)]
+        let second = match pool.get_blocking() {
+            Ok(_guard) => "served",
+            Err(error) => cause_of(error),
+        };
+        match first {
+            Ok(_guard) => ("served", second),
+            Err(error) => (cause_of(error), second),
+        }
     }
 }
 
 /// Returns the outcomes of two gets on a pool of one connection. The service has no threads of its
 /// own: both gets are made in its `end`.
-pub fn ends<R: Runtime + Threads + Eprint>(rt: R) -> Result<[&'static str; 2], RunError<Down>> {
+pub fn ends<R: Runtime + Threads + Eprint>(rt: R) -> Result<Outcomes, RunError<Down>> {
     Builder::new()
         .max_size(1)
         .connection_timeout(Duration::from_millis(100))

@@ -18,7 +18,7 @@ use std::io;
 
 fn main(rt: HostRuntime) -> io::Result<()> {
     match ends(rt) {
-        Ok([first, second]) => println!(rt; "errors: {first}, then {second}")?,
+        Ok((first, second)) => println!(rt; "errors: {first}, then {second}")?,
         Err(_) => println!(rt; "errors: no pool")?,
     }
     for (size, idle) in SETTINGS {

@@ -2,7 +2,7 @@
 
 use super::{Bench, Metered, Times, Work, assert_below, nanos, serve};
 use bb8::{PoolCalls, PoolPermits, RunError, Runtime};
-use bb8_trials::{Board, Course, Either, Number, builder_on};
+use bb8_trials::{Board, Course, Number, builder_on};
 use std::test::Fail;
 use std::thread::{self, Threads};
 use std::time::{Clock, CpuClock, Duration};
@@ -44,6 +44,25 @@ struct Waiting {
     served: Number,
 }
 
+/// Measures a wait. (A trait because of *trait-for-threads*.)
+trait Ends<R> {
+    /// Returns the measurements of a get that ended just now, and holds its connection again if the
+    /// trial says so. None if it had another result than it should.
+    fn ended(&self, bench: &Bench<R>, before: u64, is_right: bool) -> Times;
+}
+
+impl<R: Runtime + CpuClock> Ends<R> for Waiting {
+    fn ended(&self, bench: &Bench<R>, before: u64, is_right: bool) -> Times {
+        let rt = &bench.rt;
+        let used = nanos(rt.thread_cpu_time()).saturating_sub(before);
+        let after = nanos(rt.monotonic()).saturating_sub(bench.meter.caused.get());
+        if self.trial.again && self.served.count() == 1 {
+            thread::sleep(rt, Duration::from_millis(self.trial.hold));
+        }
+        is_right.then_some([used, after, 0])
+    }
+}
+
 impl<R: Runtime + CpuClock> Work<R> for Waiting {
     /// The processor time that a thread used while it waited, and how long after the cause its get
     /// ended, in nanoseconds.
@@ -69,21 +88,18 @@ impl<R: Runtime + CpuClock> Work<R> for Waiting {
             thread::sleep(rt, Duration::from_millis(trial.apart));
         }
         let before = nanos(rt.thread_cpu_time());
-        let got = if trial.owned {
-            pool.get_owned_blocking().map(|guard| Either::Owned(guard))
-        } else {
-            pool.get_blocking().map(|guard| Either::Lent(guard))
-        };
-        let used = nanos(rt.thread_cpu_time()).saturating_sub(before);
-        let after = nanos(rt.monotonic()).saturating_sub(bench.meter.caused.get());
-        if trial.again && self.served.count() == 1 {
-            thread::sleep(rt, hold);
+        if trial.closes {
+            let RunError::TimedOut = pool.get_blocking().err()? else {
+                return None;
+            };
+            return self.ended(bench, before, true);
         }
-        let is_right = match got {
-            Ok(_) => !trial.closes,
-            Err(error) => trial.closes && error == RunError::TimedOut,
-        };
-        is_right.then_some([used, after, 0])
+        if trial.owned {
+            let got = pool.get_owned_blocking();
+            return self.ended(bench, before, got.is_ok());
+        }
+        let got = pool.get_blocking();
+        self.ended(bench, before, got.is_ok())
     }
 }
 

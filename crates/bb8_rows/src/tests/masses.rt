@@ -338,8 +338,9 @@ impl Writer {
             }
         }
         let polled = if is_open { self.tasks.len() as u64 } else { 0 };
+        let passes = is_open && self.opening == "passes";
         if !is_open || self.opening != "lasts" {
-            self.end_tasks(is_open && self.opening == "passes");
+            self.end_tasks(passes);
         }
         let turn = Turn {
             polled,
