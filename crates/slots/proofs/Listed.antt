@@ -1,6 +1,6 @@
 -- Lists of jobs: how many run, which ids they have, and where each is.
+use Rattle.slots.specs.Entries.{EachGet}
 use Rattle.slots.proofs.Words.{◌≡◌, ℕ, suc, ◌+◌, ◌≤◌, ◌<◌, ◌==◌, cond, Bool, true, false, Option, Some, None, OnSome, List, [], ◌∷◌, ◌++◌, length, take, drop, get_or, refl, sym, ◌∙◌, ap, subst, arith, append_assoc, add-one, drop-cons, take-suc, eqb-true, ne_eqb, JobEntry, JobPlace, Waiting, Ended, AreIds, ids, guards_for, running, place_of, outcome_of, left_after, without}
-use Rattle.slots.specs.declared.job.Outcome.{Outcome}
 
 -- one more id, the next
 pub more : (low high : ℕ) (all : List ℕ) → AreIds low high all → AreIds low (high + 1) (all ++ high ∷ [])
@@ -13,6 +13,11 @@ lower low low' high [] le h = omega arith
 lower low low' high (id ∷ all) le (first, rest) = (omega arith, rest)
 
 module _ {J O G : Type 0} where
+  -- where there is no job, none waits
+  pub none-waits : (P : G → Type 0) (es : List (JobEntry J O G)) → length es ≡ 0 → EachGet P es
+  none-waits P [] none = tt
+  none-waits P (e ∷ es) none = absurd (omega (arith, none))
+
   pub running_append : (xs ys : List (JobEntry J O G)) → running (xs ++ ys) ≡ running xs + running ys
   running_append [] ys = omega arith
   running_append (x ∷ xs) ys = omega (arith, running_append xs ys)
@@ -38,17 +43,17 @@ module _ {J O G : Type 0} where
       let there : AreIds low high (ids es) = lower low (e.id + 1) high (ids es) (omega arith) rest in
       elim (e.id == id) as (λ b. AreIds low high (ids (cond b es (e ∷ without id es)))) [ true ↦ there | false ↦ (first, kept id (e.id + 1) high es rest) ]
 
-  no-guard : (p : JobPlace J O G) (o : Outcome O) → outcome_of (Some p) ≡ Some o → guards_for p ≡ 0
+  no-guard : (p : JobPlace J O G) (o : O) → outcome_of (Some p) ≡ Some o → guards_for p ≡ 0
   no-guard (Ended outcome) o h = refl
   no-guard _ o h = cc
 
-  counts : (b : Bool) (id : ℕ) (o : Outcome O) (e : JobEntry J O G) (es : List (JobEntry J O G)) → outcome_of (cond b (Some e.place) (place_of id es)) ≡ Some o
+  counts : (b : Bool) (id : ℕ) (o : O) (e : JobEntry J O G) (es : List (JobEntry J O G)) → outcome_of (cond b (Some e.place) (place_of id es)) ≡ Some o
       → (outcome_of (place_of id es) ≡ Some o → running (without id es) ≡ running es) → running (cond b es (e ∷ without id es)) ≡ guards_for e.place + running es
   counts true id o e es h rest = omega (arith, no-guard e.place o h)
   counts false id o e es h rest = omega (arith, rest h)
 
   -- as many run where one that has ended is taken out
-  pub as-many : (id : ℕ) (o : Outcome O) (es : List (JobEntry J O G)) → outcome_of (place_of id es) ≡ Some o → running (without id es) ≡ running es
+  pub as-many : (id : ℕ) (o : O) (es : List (JobEntry J O G)) → outcome_of (place_of id es) ≡ Some o → running (without id es) ≡ running es
   as-many id o [] h = refl
   as-many id o (e ∷ es) h = counts (e.id == id) id o e es h (as-many id o es)
 
@@ -101,14 +106,14 @@ module _ {J O G : Type 0} where
 
   -- where the outcome of an id was asked for, the ids stay ids, as many run, and a job that was
   -- taken is gone
-  pub taken-ids : (id next : ℕ) (o : Option (Outcome O)) (es : List (JobEntry J O G)) → AreIds 0 next (ids es) → AreIds 0 next (ids (left_after o id es))
+  pub taken-ids : (id next : ℕ) (o : Option O) (es : List (JobEntry J O G)) → AreIds 0 next (ids es) → AreIds 0 next (ids (left_after o id es))
   taken-ids id next None es h = h
   taken-ids id next (Some outcome) es h = kept id 0 next es h
 
-  pub taken-running : (id : ℕ) (o : Option (Outcome O)) (es : List (JobEntry J O G)) → o ≡ outcome_of (place_of id es) → running (left_after o id es) ≡ running es
+  pub taken-running : (id : ℕ) (o : Option O) (es : List (JobEntry J O G)) → o ≡ outcome_of (place_of id es) → running (left_after o id es) ≡ running es
   taken-running id None es is = refl
   taken-running id (Some outcome) es is = as-many id outcome es (sym is)
 
-  pub taken-gone : (id next : ℕ) (o : Option (Outcome O)) (es : List (JobEntry J O G)) → AreIds 0 next (ids es) → OnSome o (place_of id (left_after o id es) ≡ None)
+  pub taken-gone : (id next : ℕ) (o : Option O) (es : List (JobEntry J O G)) → AreIds 0 next (ids es) → OnSome o (place_of id (left_after o id es) ≡ None)
   taken-gone id next None es h = tt
   taken-gone id next (Some outcome) es h = gone id 0 next es h

@@ -4,7 +4,6 @@ use Rattle.std.specs.Coded.{×_prop, le_prop}
 use Rattle.slots.specs.declared.entries.JobEntry.{JobEntry}
 use Rattle.slots.specs.declared.entries.JobPlace.{JobPlace}
 use Rattle.slots.specs.declared.entries.JobPlace.TheVariants.{Waiting, Running, Ended}
-use Rattle.slots.specs.declared.job.Outcome.{Outcome}
 use Rattle.slots.specs.declared.job.Phase.{Phase}
 use Rattle.slots.specs.declared.job.Phase.TheVariants as phase
 
@@ -65,7 +64,7 @@ module _ {J O G : Type 0} where
   is_ended _ = false
 
   -- the outcome of a job, None if there is none or it has not ended
-  abbrev pub outcome_of : Option (JobPlace J O G) → Option (Outcome O)
+  abbrev pub outcome_of : Option (JobPlace J O G) → Option O
   outcome_of (Some (Ended outcome)) = Some outcome
   outcome_of _ = None
 
@@ -75,7 +74,7 @@ module _ {J O G : Type 0} where
   without id (e ∷ es) = cond (e.id == id) es (e ∷ without id es)
 
   -- the jobs left after the outcome of an id was requested: without that one, if it was returned
-  abbrev pub left_after : Option (Outcome O) → ℕ → List (JobEntry J O G) → List (JobEntry J O G)
+  abbrev pub left_after : Option O → ℕ → List (JobEntry J O G) → List (JobEntry J O G)
   left_after None id es = es
   left_after (Some outcome) id es = without id es
 

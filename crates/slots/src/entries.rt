@@ -4,10 +4,10 @@ ghost use Rattle.std.specs.List.{slice_index_or, remove};
 ghost use Rattle.std.specs.VecDeque.{deque_len};
 ghost use Rattle.slots.specs.Entries.{is_ended, phase_in, phase_of, place_of, outcome_of, left_after, running, without};
 
-use crate::job::{Outcome, Phase};
+use crate::job::Phase;
 use std::collections::VecDeque;
 
-/// The state of a job: `J` is a job, `O` its output, `G` a get.
+/// The state of a job: `J` is a job, `O` its outcome, `G` a get.
 #[derive(Drop)]
 pub(crate) enum JobPlace<J, O, G> {
     /// It waits for the result of its get.
@@ -15,7 +15,7 @@ pub(crate) enum JobPlace<J, O, G> {
     /// It runs, and one of the guards is held for it.
     Running(J),
     /// It has ended with this outcome.
-    Ended(Outcome<O>),
+    Ended(O),
 }
 
 /// A job with its id.
@@ -79,7 +79,7 @@ pub(crate) fn phase_at<J, O, G>(entries: &VecDeque<JobEntry<J, O, G>>, id: u64) 
 pub(crate) fn take_ended<J: Drop, O: Drop, G: Drop>(
     entries: &mut VecDeque<JobEntry<J, O, G>>,
     id: u64,
-) -> Option<Outcome<O>>
+) -> Option<O>
     ensures outcome { result ≡ outcome_of (place_of id entries.old.items) }
     ensures left { entries.new.items ≡ left_after result id entries.old.items }
 {

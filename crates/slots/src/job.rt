@@ -5,7 +5,6 @@ ghost use Rattle.bb8_types.specs.declared.api.moments.Moment.{Moment as MomentOf
 
 use bb8::{Moment, RunError};
 use futures::task::Poll;
-use std::convert::Infallible;
 
 /// Work done in polls. Each poll is made while a guard of the pool is held for it.
 pub trait Job: Drop {
@@ -24,12 +23,11 @@ pub trait Job: Drop {
 
 /// The outcome of a job.
 #[derive(Clone, Debug, Drop)]
-pub enum Outcome<O> {
+pub enum Outcome<O, E> {
     /// It was done, with this output.
     Done(O),
-    /// It never ran. `TimedOut`: no connection came in time. `Memory`: memory was refused, for the
-    /// get or to keep its guard. `Exhausted`: the pool had no number left for the get.
-    Refused(RunError<Infallible>),
+    /// It never ran, for this error of its get; or there was no memory to keep the guard.
+    Refused(RunError<E>),
 }
 
 /// The phase of a job between two turns.

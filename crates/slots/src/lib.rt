@@ -2,7 +2,8 @@
 //! pool's `max_size` run at a time.
 //!
 //! It uses the public contract of `bb8` alone. It shows how a bounded executor, a job queue or a
-//! worker pool can be proved on it. The connections are empty slots; a guard is permission to run.
+//! worker pool can be proved on it. With `SlotManager` the connections are empty slots, and a guard
+//! is permission to run.
 //! Jobs are submitted (`RunnerCalls::submit`) and continue in each turn (`turn`). Their outcomes
 //! are taken by id (`take`). bb8 has no such thing, so the behaviour is our own choice.
 //!
@@ -101,8 +102,7 @@ mod entries;
 mod job;
 mod runner;
 mod slot;
-mod stepping;
-mod turning;
+mod steps;
 
 pub use job::{Job, Outcome, Phase};
 pub use runner::{Runner, RunnerCalls, TurnParts};

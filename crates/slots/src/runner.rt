@@ -1,4 +1,4 @@
-//! A runner of jobs on a pool of slots.
+//! A runner of jobs on a pool.
 ghost use Rattle.std.specs.Prelude.{◌≡◌, ◌≤◌, ◌+◌, ℕ, [], None, IfOk, OnOk, IfErr, OnErr, OnSome};
 ghost use Rattle.futures.specs.Task.{Keeps};
 ghost use Rattle.bb8_types.specs.declared.api.moments.Moment.{Moment as MomentOf};
@@ -8,17 +8,15 @@ ghost use Rattle.slots.specs.Entries.{ids, left_after, outcome_of, phase_of, pla
 
 use crate::entries::{JobEntry, JobPlace, phase_at, take_ended};
 use crate::job::{Job, Outcome, Phase};
-use crate::slot::{Slot, SlotManager};
-use crate::stepping::{Get, SlotGuards};
-use crate::turning::StepsAll;
-use bb8::{
-    Clock, CustomizeConnection, Driver, DriverCalls, ErrorSink, Gets, Guards, GuardsCalls, Locks,
-    Memory, Moment, Permits, Pool, PoolCalls,
-};
+use crate::steps::Steps;
+use bb8::driver::Driver;
+use bb8::get::GetFuture;
+use bb8::guards::Guards;
+use bb8::pool::Pool;
+use bb8::{DriverCalls, Gets, GuardsCalls, Memory, Moment, Permits, PoolCalls, PoolTypes};
 use futures::task::Context;
 use std::alloc::Global;
 use std::collections::VecDeque;
-use std::convert::Infallible;
 use std::sync::Wait;
 
 /// Runs jobs, each while it holds a connection of the pool, so at most the pool's `max_size` run at
@@ -27,19 +25,11 @@ use std::sync::Wait;
 /// Jobs are submitted, continue in each turn, and their outcomes are taken by id. When a runner is
 /// dropped, the gets of waiting jobs are cancelled and the guards of running ones are returned; for
 /// this it may wait for the pool's lock.
-pub struct Runner<
-    'a,
-    J: Job,
-    S: ErrorSink<Infallible>,
-    Z: CustomizeConnection<Slot, Infallible>,
-    K: Clock,
-    R: Locks,
-    L: Permits,
-> {
-    entries: VecDeque<JobEntry<J, J::Out, Get<'a, S, Z, K, R, L>>>,
-    guards: SlotGuards<'a, S, Z, K, R, L>,
-    driver: Driver<SlotManager, S, Z, K, R, L>,
-    pool: &'a Pool<SlotManager, S, Z, K, R, L>,
+pub struct Runner<'a, J: Job, G: PoolTypes, L: Permits> {
+    entries: VecDeque<JobEntry<J, Outcome<J::Out, G::Error>, GetFuture<'a, G, L>>>,
+    guards: Guards<'a, G, L>,
+    driver: Driver<G, L>,
+    pool: &'a Pool<G, L>,
     next: u64,
     pub ghost ordered: { AreIds 0 next (ids entries.items) } by { AreIds-prop 0 next (ids entries.items) },
     pub ghost held: { running entries.items ≡ number_in guards },
@@ -47,14 +37,7 @@ pub struct Runner<
     pub ghost within: { running entries.items ≤ (settings_in pool.now).max_size },
 }
 
-impl<
-    J: Job,
-    S: ErrorSink<Infallible>,
-    Z: CustomizeConnection<Slot, Infallible>,
-    K: Clock,
-    R: Locks,
-    L: Permits,
-> Drop for Runner<'_, J, S, Z, K, R, L> {
+impl<J: Job, G: PoolTypes, L: Permits> Drop for Runner<'_, J, G, L> {
     ghost use Rattle.slots.specs.Runners.{LetsRunnerGo};
 
     fn drop(self)
@@ -70,8 +53,8 @@ impl<
         while let Some(JobEntry { id: _, place }) = entries.pop_front() {
             match place {
                 JobPlace::Waiting(_job, get) => drop(get),
-                JobPlace::Running(_job) => {}
-                JobPlace::Ended(_outcome) => {}
+                JobPlace::Running(job) => drop(job),
+                JobPlace::Ended(outcome) => drop(outcome),
             }
         }
         drop(guards);
@@ -139,21 +122,13 @@ pub trait RunnerCalls: TurnParts {
     fn take(&mut self, id: u64) -> Option<Self::Outcome>;
 }
 
-impl<
-    'a,
-    J: Job,
-    S: ErrorSink<Infallible>,
-    Z: CustomizeConnection<Slot, Infallible>,
-    K: Clock,
-    R: Wait + AllocGlobal + Send + Sync + Drop + 'static,
-    L: Permits,
-> Runner<'a, J, S, Z, K, R, L> {
+impl<'a, J: Job, G: PoolTypes<Runtime: Wait + AllocGlobal>, L: Permits> Runner<'a, J, G, L> {
     ghost use Rattle.bb8.specs.Drivers.{IsDriverOf};
     ghost use Rattle.slots.specs.Runners.{driver_of, jobs_in, next_id, pool_of};
 
     /// Returns a runner on the pool without jobs, with a driver of the pool. Fails only if
     /// `Driver::new` does.
-    pub fn new(alloc: Global, pool: &'a Pool<SlotManager, S, Z, K, R, L>) -> Result<Self, Memory>
+    pub fn new(alloc: Global, pool: &'a Pool<G, L>) -> Result<Self, Memory>
         ensures pool { IfOk result (λ runner. pool_of runner ≡ pool.now) }
         ensures driver { IfOk result (λ runner. IsDriverOf (driver_of runner) pool.now) }
         ensures empty { IfOk result (λ runner. jobs_in runner ≡ []) }
@@ -170,15 +145,7 @@ impl<
     }
 }
 
-impl<
-    'a,
-    J: Job,
-    S: ErrorSink<Infallible>,
-    Z: CustomizeConnection<Slot, Infallible>,
-    K: Clock,
-    R: Wait + Send + Sync + Drop + 'static,
-    L: Permits,
-> TurnParts for Runner<'a, J, S, Z, K, R, L> {
+impl<'a, J: Job, G: PoolTypes<Runtime: Wait>, L: Permits> TurnParts for Runner<'a, J, G, L> {
     ghost use Rattle.slots.specs.Runners.{StepsJobsOf, TurnsDriverOf};
 
     ghost turns = { λ runner moment runner'. TurnsDriverOf runner moment runner' };
@@ -194,20 +161,12 @@ impl<
     }
 }
 
-impl<
-    'a,
-    J: Job,
-    S: ErrorSink<Infallible>,
-    Z: CustomizeConnection<Slot, Infallible>,
-    K: Clock,
-    R: Wait + Send + Sync + Drop + 'static,
-    L: Permits,
-> RunnerCalls for Runner<'a, J, S, Z, K, R, L> {
+impl<'a, J: Job, G: PoolTypes<Runtime: Wait>, L: Permits> RunnerCalls for Runner<'a, J, G, L> {
     ghost use Rattle.slots.specs.Runners.{jobs_in, most_running, next_id, pool_of, running_in, TakesJobOn};
 
     type Job = J;
 
-    type Outcome = Outcome<J::Out>;
+    type Outcome = Outcome<J::Out, G::Error>;
 
     fn submit(&mut self, job: J) -> Result<u64, J>
         ensures id { IfOk result (λ id. id ≡ next_id self.old) }
@@ -244,7 +203,7 @@ impl<
         self.guards.len() as u64
     }
 
-    fn take(&mut self, id: u64) -> Option<Outcome<J::Out>>
+    fn take(&mut self, id: u64) -> Option<Outcome<J::Out, G::Error>>
         ensures outcome { result ≡ outcome_of (place_of id (jobs_in self.old)) }
         ensures left { jobs_in self.new ≡ left_after result id (jobs_in self.old) }
         ensures gone { OnSome result (place_of id (jobs_in self.new) ≡ None) }

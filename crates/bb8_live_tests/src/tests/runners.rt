@@ -13,6 +13,7 @@ use bb8_trials::sizes;
 use futures::task::Poll;
 use futures::test::MockTask;
 use slots::{Job, Outcome, Phase, Runner, RunnerCalls, SlotManager};
+use std::convert::Infallible;
 use std::marker::Brand;
 use std::process::Abort;
 use std::sync::ledger::Blank;
@@ -38,9 +39,9 @@ impl Job for Count {
 }
 
 /// A runner of counts.
-trait CountRunner: RunnerCalls<Job = Count, Outcome = Outcome<u64>> + Drop {}
+trait CountRunner: RunnerCalls<Job = Count, Outcome = Outcome<u64, Infallible>> + Drop {}
 
-impl<X: RunnerCalls<Job = Count, Outcome = Outcome<u64>> + Drop> CountRunner for X {}
+impl<X: RunnerCalls<Job = Count, Outcome = Outcome<u64, Infallible>> + Drop> CountRunner for X {}
 
 /// A runner of counts, and what a test turns it with.
 #[derive(Drop)]

@@ -1,7 +1,7 @@
 use Rattle.slots.proofs.Words.{◌≡◌, true, false, refl}
 use Rattle.slots.specs.Guards.{GivesOneBack}
-use Rattle.slots.proofs.stepping.SlotGuardsStepsOneOutGet.step_job.Goals.{in-Some, in-None}
-use Rattle.slots.proofs.stepping.SlotGuardsStepsOneOutGet.step_job.Goals as goal
+use Rattle.slots.proofs.steps.GuardsSteps.step_job.Goals.{in-Some, in-None}
+use Rattle.slots.proofs.steps.GuardsSteps.step_job.Goals as goal
 
 pub returns-clause-steps : goal.returns-clause-steps
 returns-clause-steps g c some =

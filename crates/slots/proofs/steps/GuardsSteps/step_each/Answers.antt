@@ -1,6 +1,6 @@
 use Rattle.slots.proofs.Words.{◌<◌, ◌∙◌, refl, arith, deque_len, GivesBack, PollsGet}
 use Rattle.slots.proofs.Stepped.{Midway-first, Midway-step, Midway-over}
-use Rattle.slots.proofs.turning.SlotGuardsStepsAllVecDequeJobEntryOutGet.step_each.Goals as goal
+use Rattle.slots.proofs.steps.GuardsSteps.step_each.Goals as goal
 
 pub loop-init : goal.loop-init
 loop-init g c = record {

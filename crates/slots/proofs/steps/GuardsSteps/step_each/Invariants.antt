@@ -1,7 +1,7 @@
 use Rattle.slots.proofs.Words.{◌≡◌, ◌-◌, ◌≤◌, deque_len, number_in, AreOfOne, GivesBack, PollsGet, running}
 use Rattle.slots.proofs.Stepped.{TurnMidway}
 use Rattle.futures.specs.Task.{Keeps}
-use Rattle.slots.proofs.turning.SlotGuardsStepsAllVecDequeJobEntryOutGet.step_each.Given as goal
+use Rattle.slots.proofs.steps.GuardsSteps.step_each.Given as goal
 
 abbrev pub invariant-loop : goal.invariant-loop
 invariant-loop g l = record {

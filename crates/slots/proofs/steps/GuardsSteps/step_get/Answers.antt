@@ -1,5 +1,5 @@
 use Rattle.slots.proofs.Words.{refl, inl, inr, subst, GivesBack}
-use Rattle.slots.proofs.stepping.SlotGuardsStepsOneOutGet.step_get.Goals as goal
+use Rattle.slots.proofs.steps.GuardsSteps.step_get.Goals as goal
 
 pub returns-in-Ready-Err-clause-steps : goal.returns-in-Ready-Err-clause-steps
 returns-in-Ready-Err-clause-steps g c =
