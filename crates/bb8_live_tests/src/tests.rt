@@ -21,7 +21,7 @@ use bb8::{
 use bb8_trials::Refused;
 use futures::task::Poll;
 use futures::test::MockTask;
-use std::fmt::Debug;
+use std::fmt::{Debug, Display};
 use std::marker::Brand;
 use std::process::Abort;
 use std::sync::ledger::Blank;
@@ -138,38 +138,28 @@ fn defaults(rt: HostRuntime) -> Result<(), Fail> {
     Ok(())
 }
 
+/// Asserts that a value prints as this text.
+fn assert_prints<R: Abort + AllocGlobal>(
+    rt: &R,
+    value: impl Display + Drop,
+    text: &str,
+) -> Result<(), Fail> {
+    assert_equal(rt, format!(in rt.alloc(); "{value}")?.as_str(), text);
+    Ok(())
+}
+
 #[test]
 fn prints_errors(rt: HostRuntime) -> Result<(), Fail> {
-    let run_errors = [
-        (RunError::from(Refused(3)), "refused 3"),
-        (RunError::TimedOut, "Timed out in bb8"),
-        (RunError::Memory, "No memory in bb8"),
-        (RunError::Exhausted, "Numbers used up in bb8"),
-    ];
-    for (error, text) in &run_errors {
-        assert_equal(&rt, format!(in rt.alloc(); "{error}")?.as_str(), *text);
-    }
-    let add_errors = [
-        (
-            AddError::Broken(Plain),
-            "The connection was broken before it could be added",
-        ),
-        (
-            AddError::NoCapacity(Plain),
-            "Unable to add the connection to the pool due to insufficient capacity",
-        ),
-        (
-            AddError::Withheld(Plain),
-            "No memory or number to add the connection",
-        ),
-    ];
-    for (error, text) in &add_errors {
-        assert_equal(&rt, format!(in rt.alloc(); "{error}")?.as_str(), *text);
-    }
-    assert_equal(
-        &rt,
-        format!(in rt.alloc(); "{Memory}")?.as_str(),
-        "No memory in bb8",
-    );
-    Ok(())
+    assert_prints(&rt, RunError::from(Refused(3)), "refused 3")?;
+    assert_prints(&rt, RunError::<Refused>::TimedOut, "Timed out in bb8")?;
+    assert_prints(&rt, RunError::<Refused>::Memory, "No memory in bb8")?;
+    let text = "Numbers used up in bb8";
+    assert_prints(&rt, RunError::<Refused>::Exhausted, text)?;
+    assert_prints(&rt, Memory, "No memory in bb8")?;
+    let text = "The connection was broken before it could be added";
+    assert_prints(&rt, AddError::Broken(Plain), text)?;
+    let text = "Unable to add the connection to the pool due to insufficient capacity";
+    assert_prints(&rt, AddError::NoCapacity(Plain), text)?;
+    let text = "No memory or number to add the connection";
+    assert_prints(&rt, AddError::Withheld(Plain), text)
 }

@@ -29,7 +29,7 @@ pub const WAITING: u64 = 2;
 pub const LOOKS: u32 = 10_000_000;
 
 /// A number that a test shares with its pool.
-#[derive(Drop)]
+#[derive(Drop, Default)]
 pub struct Number {
     value: AtomicU64,
 }
@@ -87,26 +87,15 @@ pub enum Course {
     Fails,
 }
 
-/// A course that a test sets.
-#[derive(Drop)]
+/// A course that a test sets, at first `Passes`.
+#[derive(Drop, Default)]
 pub struct Switch {
     course: Number,
 }
 
 impl Switch {
-    /// Returns a switch at `Passes`.
-    fn new() -> Switch {
-        Switch {
-            course: Number::new(0),
-        }
-    }
-
     pub fn set(&self, course: Course) {
-        self.course.set(match course {
-            Course::Passes => 0,
-            Course::Lasts => 1,
-            Course::Fails => 2,
-        });
+        self.course.set(course as u64);
     }
 
     fn get(&self) -> Course {
@@ -119,7 +108,7 @@ impl Switch {
 }
 
 /// How a server replies, and what it has counted. A test and its pool share it.
-#[derive(Drop)]
+#[derive(Drop, Default)]
 pub struct Board {
     /// `ARMED` if the next poll of an attempt is to wait. It fails if it waits too long.
     pub stage: Number,
@@ -150,20 +139,8 @@ pub struct Board {
 impl Board {
     /// Returns a server whose attempts and checks all pass, and whose connections are never broken.
     pub fn new(alloc: Global) -> Result<Arc<Board, Global>, Memory> {
-        let board = Board {
-            stage: Number::new(OPEN),
-            ready: Number::new(0),
-            opening: Switch::new(),
-            opens: Number::new(ALWAYS),
-            fails: Number::new(0),
-            check: Switch::new(),
-            breaks: Number::new(0),
-            begun: Number::new(0),
-            made: Number::new(0),
-            closed: Number::new(0),
-            drops: Number::new(0),
-            errors: Number::new(0),
-        };
+        let board = Board::default();
+        board.opens.set(ALWAYS);
         Ok(Arc::new(alloc, board)?)
     }
 
@@ -202,16 +179,13 @@ pub fn builder_on(board: &Arc<Board, Global>) -> Result<ServerBuilder, Memory>
 /// Returns a connection of this number, made without an attempt.
 pub fn connection_on(board: &Arc<Board, Global>, number: u64) -> Result<ServerConnection, Memory> {
     let shared = Arc::try_clone(board)?;
-    let mut digit: u64 = 1;
-    for _ in 1..board.made.count().min(17) {
-        digit = digit.wrapping_mul(16);
-    }
+    let before = board.made.count().min(17).saturating_sub(1);
     Ok(ServerConnection {
         number,
         checks: 0,
         field: 0,
         is_broken: false,
-        digit,
+        digit: 16_u64.wrapping_pow(before as u32),
         board: shared,
     })
 }

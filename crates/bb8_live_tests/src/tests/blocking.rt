@@ -1,14 +1,14 @@
 //! The number of calls that a poll of an attempt of `Blocking` makes, which no clause states.
 
 use bb8::{Blocking, BlockingManager, ManageConnection, Moment};
+use bb8_trials::Number;
 use futures::task::Poll;
 use std::convert::Infallible;
-use std::sync::atomic::{AtomicU64, Ordering};
 
-/// Opens the connections 0, 1, 2 and so on.
+/// Opens the connections 1, 2, 3 and so on.
 #[derive(Drop)]
 struct Numbers {
-    next: AtomicU64,
+    opened: Number,
 }
 
 impl BlockingManager for Numbers {
@@ -17,7 +17,7 @@ impl BlockingManager for Numbers {
     type Error = Infallible;
 
     fn connect(&self) -> Result<u64, Infallible> {
-        Ok(self.next.fetch_add(1, Ordering::SeqCst))
+        Ok(self.opened.count())
     }
 
     fn is_valid(&self, _connection: &mut u64) -> Result<(), Infallible> {
@@ -32,9 +32,9 @@ impl BlockingManager for Numbers {
 #[test]
 fn each_poll_opens_once(rt: HostRuntime) {
     let manager = Blocking(Numbers {
-        next: AtomicU64::new(0),
+        opened: Number::new(0),
     });
-    for number in 0..3u64 {
+    for number in 1..4u64 {
         manager.connect();
         let polled = manager.poll_connect(&mut (), Moment(0));
         assert!(&rt; matches!(polled, Poll::Ready(Ok(opened)) if opened == number));

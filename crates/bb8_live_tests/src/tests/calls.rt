@@ -10,8 +10,9 @@ mod retiring;
 
 use super::assert_equal;
 use bb8::{
-    Builder, Cancel, Clock, CustomizeConnection, Driver, DriverCalls, ErrorSink, Gate, GetFuture,
-    Gets, Job, ManageConnection, Memory, Moment, Pool, PoolCalls, PoolPermits, Runtime, start,
+    Builder, Building, Cancel, Clock, CustomizeConnection, Driver, DriverCalls, ErrorSink, Gate,
+    GetFuture, Gets, Job, ManageConnection, Memory, Moment, Pool, PoolCalls, PoolPermits, Runtime,
+    start,
 };
 use bb8_trials::{ARMED, Course, LOOKS, Number, OPEN, Refused, Unbuilt, WAITING};
 use futures::task::Poll;
@@ -25,13 +26,9 @@ use std::test::Fail;
 use std::thread::{self, Threads};
 use std::time::Duration;
 
-/// The user callbacks, and the drops of a connection and of what is in progress. A callback is
-/// recorded by its position here.
+/// No callback, the user callbacks, and the drops of a connection and of what is in progress.
 const CALLS: &str =
-    "now connect poll_connect on_acquire poll_acquire is_valid poll_valid has_broken sink dropped ended";
-
-/// How many callbacks are recorded between two looks. Those after them are only counted.
-const WRITTEN: usize = 16;
+    " now connect poll_connect on_acquire poll_acquire is_valid poll_valid has_broken sink dropped ended";
 
 /// The stage at which the other thread ends.
 const ENDED: u64 = 3;
@@ -40,11 +37,8 @@ const ENDED: u64 = 3;
 /// connections.
 #[derive(Drop)]
 pub(super) struct Desk {
-    /// How many callbacks were made since the last look, and which the first of them were.
+    /// The callbacks that were made since the last look, as `and_one` writes them.
     made: Number,
-    calls: Vec<Number>,
-    /// How often the test looked.
-    looks: Number,
     /// While a callback waits, the other thread's own clock readings neither wait nor are recorded.
     pub(super) stage: Number,
     /// How many callbacks waited, and how many in vain.
@@ -55,8 +49,8 @@ pub(super) struct Desk {
     polled_at: Number,
     /// By how much each reading first advances the clock.
     step: Number,
-    /// The results of attempts, preparations and checks: 0 passes, 1 is pending, 2 fails. A check
-    /// with 3 is pending once, and then passes.
+    /// The results of attempts, preparations and checks: 0 passes, 1 is pending, 2 fails; 3 is
+    /// pending once, and then passes.
     pub(super) opening: Number,
     preparing: Number,
     check: Number,
@@ -66,14 +60,8 @@ pub(super) struct Desk {
 
 impl Desk {
     pub(super) fn new(alloc: Global) -> Result<Arc<Desk, Global>, Memory> {
-        let mut calls = Vec::new(alloc);
-        for _ in 0..WRITTEN {
-            calls.push(Number::new(0))?;
-        }
         let desk = Desk {
             made: Number::new(0),
-            calls,
-            looks: Number::new(0),
             stage: Number::new(OPEN),
             waited: Number::new(0),
             missed: Number::new(0),
@@ -88,8 +76,9 @@ impl Desk {
         Ok(Arc::new(alloc, desk)?)
     }
 
-    /// Waits until the other thread was served, if callbacks have to, and records the callback.
-    fn call(&self, call: &str) {
+    /// Waits until the other thread was served, if callbacks have to, and records the callback of
+    /// this digit.
+    fn call(&self, digit: u64) {
         match self.stage.get() {
             WAITING => return,
             ARMED => {
@@ -101,117 +90,88 @@ impl Desk {
             }
             _ => {}
         }
-        let at = self.made.count().saturating_sub(1);
-        if let Some(written) = self.written(at) {
-            written.set(place_of(call));
-        }
+        self.made.set(and_one(self.made.get(), digit));
     }
 
-    /// Returns the record of the callback at this position, from 0.
-    fn written(&self, at: u64) -> Option<&Number> {
-        self.calls.get(usize::try_from(at).ok()?)
+    /// Sets a number as `step=60` says. None if it is no such text.
+    fn set(&self, text: &str) -> Option<()> {
+        let (name, value) = text.split_once('=')?;
+        let number = match name {
+            "moment" => &self.moment,
+            "step" => &self.step,
+            "opening" => &self.opening,
+            "preparing" => &self.preparing,
+            "check" => &self.check,
+            "broken" => &self.broken,
+            _ => return None,
+        };
+        number.set(value.parse().ok()?);
+        Some(())
     }
 }
 
-/// Returns the position of a callback in `CALLS`.
-fn place_of(call: &str) -> u64 {
-    let mut place: u64 = 0;
-    for name in CALLS.split(' ') {
+/// Returns the digit of a callback, its position in `CALLS`: 0 for none, 15 for a wrong one.
+fn digit_of(call: &str) -> u64 {
+    for (digit, name) in (0..15u64).zip(CALLS.split(' ')) {
         if name == call {
-            break;
+            return digit;
         }
-        place = place.saturating_add(1);
     }
-    place
+    15
 }
 
-/// Asserts that since the last look exactly these callbacks were made, in this order.
-fn made(rt: &impl Abort, desk: &Desk, calls: &str) {
-    let look = desk.looks.count();
-    let mut wanted: u64 = 0;
-    for call in calls.split(' ') {
-        if call.is_empty() {
-            continue;
-        }
-        let is_call = desk
-            .written(wanted)
-            .is_some_and(|written| written.get() == place_of(call));
-        assert!(rt;
-            is_call,
-            "look {look}: call {wanted} is another than in: {calls}"
-        );
-        wanted = wanted.saturating_add(1);
-    }
-    let found = desk.made.get();
-    assert!(rt;
-        found == wanted,
-        "look {look}: {found} calls and not: {calls}"
-    );
-    desk.made.set(0);
+/// Returns these callbacks and one more, as hexadecimal digits. More than 16 are `u64::MAX`.
+fn and_one(calls: u64, digit: u64) -> u64 {
+    calls.saturating_mul(16).saturating_add(digit)
 }
 
 /// Returns the result of a poll of this course.
-fn answer<T: Drop>(course: u64, value: T) -> Poll<Result<T, Refused>> {
-    match course {
-        0 => Poll::Ready(Ok(value)),
+fn answer(course: &Number) -> Poll<Result<(), Refused>> {
+    match course.get() {
+        0 => Poll::Ready(Ok(())),
         1 => Poll::Pending,
-        _ => Poll::Ready(Err(Refused(1))),
+        2 => Poll::Ready(Err(Refused(1))),
+        _ => {
+            course.set(0);
+            Poll::Pending
+        }
     }
 }
 
-/// A manager, a customizer, a sink, a clock, a gate or a connection that records its callbacks.
+/// A manager, customizer, sink, clock, gate or connection, or an attempt, preparation or check in
+/// progress. It records its callbacks.
 pub(super) struct Teller {
     desk: Arc<Desk, Global>,
-    is_connection: bool,
+    /// The digit of the callback that its drop is; 0 if it is none.
+    end: u64,
+}
+
+/// Returns one whose drop is this callback.
+pub(super) fn teller_on(desk: &Arc<Desk, Global>, end: &str) -> Result<Teller, Memory> {
+    Ok(Teller {
+        desk: Arc::try_clone(desk)?,
+        end: digit_of(end),
+    })
+}
+
+impl Teller {
+    fn tell(&self, call: &str) {
+        self.desk.call(digit_of(call));
+    }
+
+    /// Records the callback that begins something, whose end is recorded.
+    fn begin(&self, call: &str) -> Option<Teller> {
+        self.tell(call);
+        teller_on(&self.desk, "ended").ok()
+    }
 }
 
 impl Drop for Teller {
     fn drop(self) {
-        let Teller {
-            desk,
-            is_connection,
-        } = self;
-        if is_connection {
-            desk.call("dropped");
+        let Teller { desk, end } = self;
+        if end != 0 {
+            desk.call(end);
         }
-    }
-}
-
-/// Makes one that is no connection.
-pub(super) fn outside_on(desk: &Arc<Desk, Global>) -> Result<Teller, Memory> {
-    Ok(Teller {
-        desk: Arc::try_clone(desk)?,
-        is_connection: false,
-    })
-}
-
-/// Makes a connection.
-pub(super) fn connection(desk: &Arc<Desk, Global>) -> Result<Teller, Memory> {
-    Ok(Teller {
-        desk: Arc::try_clone(desk)?,
-        is_connection: true,
-    })
-}
-
-/// An attempt, a preparation or a check in progress, whose end is recorded.
-pub(super) struct UnderWay {
-    desk: Option<Arc<Desk, Global>>,
-}
-
-impl Drop for UnderWay {
-    fn drop(self) {
-        let UnderWay { desk } = self;
-        if let Some(desk) = desk {
-            desk.call("ended");
-        }
-    }
-}
-
-/// Records the callback that begins it.
-fn begin(desk: &Arc<Desk, Global>, call: &str) -> UnderWay {
-    desk.call(call);
-    UnderWay {
-        desk: Arc::try_clone(desk).ok(),
     }
 }
 
@@ -220,73 +180,71 @@ impl ManageConnection for Teller {
 
     type Error = Refused;
 
-    type Connecting = UnderWay;
+    type Connecting = Option<Teller>;
 
-    type Checking = UnderWay;
+    type Checking = Option<Teller>;
 
-    fn connect(&self) -> UnderWay {
-        begin(&self.desk, "connect")
+    fn connect(&self) -> Option<Teller> {
+        self.begin("connect")
     }
 
     fn poll_connect(
         &self,
-        _connecting: &mut UnderWay,
+        _connecting: &mut Option<Teller>,
         moment: Moment,
     ) -> Poll<Result<Teller, Refused>> {
-        self.desk.call("poll_connect");
+        self.tell("poll_connect");
         self.desk.polled_at.set(moment.0);
-        match answer(self.desk.opening.get(), ()) {
-            Poll::Pending => Poll::Pending,
+        match answer(&self.desk.opening) {
+            Poll::Ready(Ok(())) => {
+                Poll::Ready(teller_on(&self.desk, "dropped").map_err(|_| Refused(0)))
+            }
             Poll::Ready(Err(error)) => Poll::Ready(Err(error)),
-            Poll::Ready(Ok(())) => Poll::Ready(connection(&self.desk).map_err(|_| Refused(0))),
+            Poll::Pending => Poll::Pending,
         }
     }
 
-    fn is_valid(&self, _connection: &mut Teller) -> UnderWay {
-        begin(&self.desk, "is_valid")
+    fn is_valid(&self, _connection: &mut Teller) -> Option<Teller> {
+        self.begin("is_valid")
     }
 
     fn poll_valid(
         &self,
         _connection: &mut Teller,
-        _checking: &mut UnderWay,
+        _checking: &mut Option<Teller>,
         _moment: Moment,
     ) -> Poll<Result<(), Refused>> {
-        self.desk.call("poll_valid");
-        if self.desk.check.get() == 3 {
-            self.desk.check.set(0);
-            return Poll::Pending;
-        }
-        answer(self.desk.check.get(), ())
+        self.tell("poll_valid");
+        answer(&self.desk.check)
     }
 
     fn has_broken(&self, _connection: &mut Teller) -> bool {
-        self.desk.call("has_broken");
+        self.tell("has_broken");
         self.desk.broken.get() != 0
     }
 }
 
 impl CustomizeConnection<Teller, Refused> for Teller {
-    type Acquiring = UnderWay;
+    type Acquiring = Option<Teller>;
 
-    fn on_acquire(&self, _connection: &mut Teller) -> UnderWay {
-        begin(&self.desk, "on_acquire")
+    fn on_acquire(&self, _connection: &mut Teller) -> Option<Teller> {
+        self.begin("on_acquire")
     }
 
     fn poll_acquire(
         &self,
         _connection: &mut Teller,
-        _acquiring: &mut UnderWay,
+        _acquiring: &mut Option<Teller>,
         _moment: Moment,
     ) -> Poll<Result<(), Refused>> {
-        self.desk.call("poll_acquire");
-        answer(self.desk.preparing.get(), ())
+        self.tell("poll_acquire");
+        answer(&self.desk.preparing)
     }
 }
 
 impl ErrorSink<Refused> for Teller {
     fn sink(&self, _error: Refused) {
-        self.desk.call("sink");
+        self.tell("sink");
     }
 }
 
@@ -294,7 +252,7 @@ impl Clock for Teller {
     fn now(&self) -> Moment {
         let desk = &*self.desk;
         let is_other = desk.stage.get() == WAITING;
-        desk.call("now");
+        self.tell("now");
         if !is_other {
             desk.moment
                 .set(desk.moment.get().saturating_add(desk.step.get()));
@@ -320,24 +278,35 @@ type TellerGet<'a, R, L> = GetFuture<'a, Teller, Teller, Teller, Teller, R, L>;
 /// The pool's driver.
 type TellerDriver<R, L> = Driver<Teller, Teller, Teller, Teller, R, L>;
 
-/// The task, clock and logs of a test.
+/// What a test works with.
 #[derive(Drop)]
-struct Tools<'a, R> {
+struct Tools<R> {
     rt: R,
-    task: &'a MockTask,
-    desk: &'a Arc<Desk, Global>,
-    /// Whether the pool checks connections at check-out.
-    checks: bool,
+    task: MockTask,
+    desk: Arc<Desk, Global>,
 }
 
-impl<R: Runtime + Abort> Tools<'_, R> {
+impl<R: Runtime + Abort> Tools<R> {
+    fn new(rt: R) -> Result<Self, Fail> {
+        let (task, desk) = (MockTask::new(&rt)?, Desk::new(rt.alloc())?);
+        Ok(Tools { rt, task, desk })
+    }
+
+    /// Asserts that since the last look exactly these callbacks were made, in this order.
     fn made(&self, calls: &str) {
-        made(&self.rt, self.desk, calls);
+        let mut wanted = 0;
+        for call in calls.split_whitespace() {
+            wanted = and_one(wanted, digit_of(call));
+        }
+        let found = self.desk.made.get();
+        let is_equal = found == wanted && found != u64::MAX;
+        assert!(&self.rt; is_equal, "{found:x} and not {wanted:x}: {calls}");
+        self.desk.made.set(0);
     }
 
     fn add<L: PoolPermits>(&self, pool: &TellerPool<R, L>) -> Result<(), Memory> {
-        drop(pool.add(connection(self.desk)?));
-        self.made("has_broken now");
+        let connection = teller_on(&self.desk, "dropped")?;
+        self.look(pool.add(connection), "has_broken now", "");
         Ok(())
     }
 
@@ -354,15 +323,22 @@ impl<R: Runtime + Abort> Tools<'_, R> {
             _ => "",
         });
     }
+
+    /// Asserts that these callbacks were made for a result, and those when it is dropped.
+    fn look<A: Drop>(&self, answer: A, calls: &str, at_its_drop: &str) {
+        self.made(calls);
+        drop(answer);
+        self.made(at_its_drop);
+    }
 }
 
 /// A get that is served, one whose check is long pending, one that times out during it, and one
 /// whose connection is found broken when the get is cancelled.
 fn checked<R: Runtime + Abort, L: PoolPermits>(
-    tools: &Tools<'_, R>,
+    tools: &Tools<R>,
     pool: &TellerPool<R, L>,
 ) -> Result<(), Memory> {
-    let desk = tools.desk;
+    let desk = &tools.desk;
     tools.add(pool)?;
     let mut get = pool.get();
     tools.poll(&mut get, "now is_valid poll_valid ended");
@@ -385,7 +361,7 @@ fn checked<R: Runtime + Abort, L: PoolPermits>(
     desk.broken.set(1);
     drop(get);
     tools.made("ended has_broken now dropped");
-    drop(pool.add(connection(desk)?));
+    drop(pool.add(teller_on(desk, "dropped")?));
     tools.made("has_broken now dropped");
     desk.broken.set(0);
     desk.check.set(0);
@@ -395,10 +371,10 @@ fn checked<R: Runtime + Abort, L: PoolPermits>(
 /// Gets that wait: one is cancelled, one times out. And gets whose check fails: one is cancelled
 /// then, and one waits and is served.
 fn waiting<R: Runtime + Abort, L: PoolPermits>(
-    tools: &Tools<'_, R>,
+    tools: &Tools<R>,
     pool: &TellerPool<R, L>,
 ) -> Result<(), Memory> {
-    let desk = tools.desk;
+    let desk = &tools.desk;
     pool.get().cancel();
     tools.made("");
     let mut get = pool.get();
@@ -438,7 +414,7 @@ fn waiting<R: Runtime + Abort, L: PoolPermits>(
 /// Gets with their own handle: one that is not polled, one that is served, and one that is
 /// cancelled during its check.
 fn owned<R: Runtime + Abort, L: PoolPermits>(
-    tools: &Tools<'_, R>,
+    tools: &Tools<R>,
     pool: &TellerPool<R, L>,
 ) -> Result<(), Memory> {
     pool.get_owned().cancel();
@@ -447,10 +423,8 @@ fn owned<R: Runtime + Abort, L: PoolPermits>(
     let mut get = pool.get_owned();
     let polled = tools.task.poll(&mut get);
     tools.made("now now is_valid poll_valid ended");
-    drop(get);
-    tools.made("");
-    drop(polled);
-    tools.made("has_broken now now");
+    tools.look(get, "", "");
+    tools.look(polled, "", "has_broken now now");
     tools.desk.check.set(1);
     let mut get = pool.get_owned();
     drop(tools.task.poll(&mut get));
@@ -463,8 +437,8 @@ fn owned<R: Runtime + Abort, L: PoolPermits>(
 
 /// Connections that the pool does not count: opened and prepared slowly; failing at the attempt or
 /// at the preparation; cancelled during the preparation.
-fn dedicated<R: Runtime + Abort, L: PoolPermits>(tools: &Tools<'_, R>, pool: &TellerPool<R, L>) {
-    let desk = tools.desk;
+fn dedicated<R: Runtime + Abort, L: PoolPermits>(tools: &Tools<R>, pool: &TellerPool<R, L>) {
+    let desk = &tools.desk;
     let mut opening = pool.dedicated_connection();
     for (connects, prepares, calls) in &[
         (1, 0, "now connect poll_connect"),
@@ -509,7 +483,7 @@ fn dedicated<R: Runtime + Abort, L: PoolPermits>(tools: &Tools<'_, R>, pool: &Te
 
 /// Closes all idle connections by failing checks, and has a get wait and be cancelled, so that one
 /// approval is open.
-fn approve<R: Runtime + Abort, L: PoolPermits>(tools: &Tools<'_, R>, pool: &TellerPool<R, L>) {
+fn approve<R: Runtime + Abort, L: PoolPermits>(tools: &Tools<R>, pool: &TellerPool<R, L>) {
     tools.desk.check.set(2);
     let mut get = pool.get();
     for _ in 0..pool.state().idle_connections.saturating_add(1) {
@@ -523,12 +497,11 @@ fn approve<R: Runtime + Abort, L: PoolPermits>(tools: &Tools<'_, R>, pool: &Tell
 /// Turns, which read no clock: one connection is opened and prepared slowly, one attempt fails, and
 /// one preparation; and a driver is dropped during a preparation.
 fn turns<R: Runtime + Abort, L: PoolPermits>(
-    tools: &Tools<'_, R>,
+    tools: &Tools<R>,
     pool: &TellerPool<R, L>,
-    driver: TellerDriver<R, L>,
+    mut driver: TellerDriver<R, L>,
 ) {
-    let desk = tools.desk;
-    let mut driver = driver;
+    let desk = &tools.desk;
     for (approves, connects, prepares, calls) in &[
         (true, 1, 0, "connect poll_connect"),
         (false, 1, 0, "poll_connect"),
@@ -563,13 +536,9 @@ fn turns<R: Runtime + Abort, L: PoolPermits>(
 }
 
 /// One more handle, and its drop.
-fn handles<R: Runtime + Abort, P: bb8_trials::OwnedHandle<Teller>>(tools: &Tools<'_, R>, pool: &P) {
-    let copy = pool.try_clone();
-    tools.made("now");
-    drop(copy);
-    tools.made("now");
-    pool.state();
-    tools.made("now");
+fn handles<R: Runtime + Abort, P: bb8_trials::OwnedHandle<Teller>>(tools: &Tools<R>, pool: &P) {
+    tools.look(pool.try_clone(), "now", "now");
+    tools.look(pool.state(), "now", "");
 }
 
 /// Asks the pool for its state while a callback waits.
@@ -603,10 +572,10 @@ impl<R: Runtime + Abort, L: PoolPermits> Job for Asker<R, L> {
 
 /// All calls of a pool with the check on, and of its driver.
 fn calls_with_checks<R: Runtime + Abort, L: PoolPermits>(
-    tools: &Tools<'_, R>,
+    tools: &Tools<R>,
     pool: &TellerPool<R, L>,
 ) -> Result<(), Memory> {
-    let desk = tools.desk;
+    let desk = &tools.desk;
     let driver = Driver::new(pool)?;
     retiring::retired(tools, pool)?;
     checked(tools, pool)?;
@@ -618,7 +587,7 @@ fn calls_with_checks<R: Runtime + Abort, L: PoolPermits>(
     approve(tools, pool);
     desk.moment.set(1000);
     desk.opening.set(1);
-    let driven = Driver::new(pool)?.run(outside_on(desk)?);
+    let driven = Driver::new(pool)?.run(teller_on(desk, "")?);
     tools.made("now connect poll_connect now poll_connect now ended");
     assert_equal(&tools.rt, driven.turns, 2);
     assert_equal(&tools.rt, desk.polled_at.get(), 1001);
@@ -640,39 +609,34 @@ fn calls_of_a_pool<R: Runtime + Abort + Threads, L: PoolPermits + 'static>(
       retry_connection = false;
     }) L.name L.parts L.settings }
 {
-    let desk = &Desk::new(rt.alloc())?;
-    let task = &MockTask::new(&rt)?;
-    let tools = Tools {
-        rt,
-        task,
-        desk,
-        checks,
-    };
+    let tools = Tools::new(rt)?;
+    let desk = &tools.desk;
     let pool: TellerPool<R, L> = Builder::new()
         .max_size(2)
         .test_on_check_out(checks)
         .connection_timeout(Duration::from_nanos(100))
         .retry_connection(false)
-        .error_sink(outside_on(desk)?)
-        .connection_customizer(outside_on(desk)?)
-        .build_unchecked(outside_on(desk)?, outside_on(desk)?, rt, blank)?;
+        .error_sink(teller_on(desk, "")?)
+        .connection_customizer(teller_on(desk, "")?)
+        .build_unchecked(teller_on(desk, "")?, teller_on(desk, "")?, rt, blank)?;
     tools.made("now");
     let mut asker = None;
     if waits {
-        let Ok(copy) = pool.try_clone() else {
-            return Err(Fail::from(Memory));
-        };
-        let desk = Arc::try_clone(desk)?;
-        asker = start(&rt, 0, Asker { pool: copy, desk }).ok();
+        let (pool, copy) = (pool.try_clone()?, Arc::try_clone(desk)?);
+        asker = start(&rt, 0, Asker { pool, desk: copy }).ok();
         tools.made("now");
-        tools.desk.stage.set(ARMED);
+        desk.stage.set(ARMED);
     }
     if checks {
+        let lists = [
+            "now is_valid poll_valid ended",
+            "now now is_valid poll_valid ended",
+        ];
         calls_with_checks(&tools, &pool)?;
-    }
-    blocking::served(&tools, &pool)?;
-    if checks {
+        blocking::served(&tools, &pool, lists)?;
         blocking::unserved(&tools, &pool)?;
+    } else {
+        blocking::served(&tools, &pool, ["now", "now now"])?;
     }
     desk.stage.set(ENDED);
     assert_equal(&rt, asker.is_some(), waits);
@@ -687,31 +651,29 @@ fn calls_of_a_pool<R: Runtime + Abort + Threads, L: PoolPermits + 'static>(
 /// The polls of a build, which opens two connections: it resolves, is cancelled, or fails. Then its
 /// pool is used, whose gets are not checked.
 fn calls_of_a_building<R: Runtime + Abort, B: Unbuilt<Teller>>(
-    tools: &Tools<'_, R>,
-    building: B,
+    tools: &Tools<R>,
+    mut building: B,
     course: Course,
 ) {
-    let mut building = building;
+    let task = &tools.task;
     tools.desk.opening.set(1);
-    drop(building.poll(tools.task));
+    drop(building.poll(task));
     tools.made("now now connect poll_connect connect poll_connect");
     match course {
         Course::Passes => {
             tools.desk.opening.set(0);
-            let polled = building.poll(tools.task);
+            let polled = building.poll(task);
             tools.made(
                 "now poll_connect ended on_acquire poll_acquire ended poll_connect ended on_acquire poll_acquire ended",
             );
             for _ in 0..2u32 {
                 if let Poll::Ready(Ok(pool)) = &polled {
-                    bb8_trials::OwnedHandle::serves_at_once(pool, tools.task);
+                    bb8_trials::OwnedHandle::serves_at_once(pool, task);
                 }
                 tools.made("now has_broken now");
             }
-            drop(polled);
-            tools.made("now dropped dropped");
-            drop(building.poll(tools.task));
-            tools.made("");
+            tools.look(polled, "", "now dropped dropped");
+            tools.look(building.poll(task), "", "");
         }
         Course::Lasts => {
             building.cancel();
@@ -719,7 +681,7 @@ fn calls_of_a_building<R: Runtime + Abort, B: Unbuilt<Teller>>(
         }
         Course::Fails => {
             tools.desk.opening.set(2);
-            drop(building.poll(tools.task));
+            drop(building.poll(task));
             tools.made("now poll_connect ended ended now");
         }
     }
@@ -738,27 +700,16 @@ fn builds<R: Runtime + Abort, L: PoolPermits>(
       retry_connection = false;
     }) L.name L.parts L.settings }
 {
-    let desk = &Desk::new(rt.alloc())?;
-    let task = &MockTask::new(&rt)?;
-    let tools = Tools {
-        rt,
-        task,
-        desk,
-        checks: false,
-    };
-    let builder = Builder::new()
+    let tools = Tools::new(rt)?;
+    let desk = &tools.desk;
+    let building: Building<Teller, Teller, Teller, Teller, R, L> = Builder::new()
         .max_size(2)
         .min_idle(Some(2))
         .test_on_check_out(false)
         .retry_connection(false)
-        .error_sink(outside_on(desk)?)
-        .connection_customizer(outside_on(desk)?);
-    let building: bb8::Building<Teller, Teller, Teller, Teller, R, L> = builder.build(
-        outside_on(desk)?,
-        outside_on(desk)?,
-        rt,
-        blank,
-    );
+        .error_sink(teller_on(desk, "")?)
+        .connection_customizer(teller_on(desk, "")?)
+        .build(teller_on(desk, "")?, teller_on(desk, "")?, rt, blank);
     tools.made("");
     calls_of_a_building(&tools, building, course);
     Ok(())

@@ -1,6 +1,6 @@
 //! How guards print, and which threads they may go to.
 
-use super::{NumberTrial, Trial, assert_equal, try_numbers};
+use super::{NumberTrial, Trial, assert_equal, assert_prints, try_numbers};
 use bb8::{Gets, PoolCalls, PoolPermits, Runtime};
 use futures::task::Poll;
 use std::process::Abort;
@@ -16,11 +16,7 @@ pub(super) fn derefs<R: Runtime + Abort, L: PoolPermits>(
     numbers: NumberTrial<R, L>,
 ) -> Result<(), Fail> {
     let NumberTrial { pool, task, .. } = numbers;
-    assert_equal(
-        &rt,
-        format!(in rt.alloc(); "{pool:?}")?.as_str(),
-        "Pool(..)",
-    );
+    assert_prints(&rt, format_args!("{pool:?}"), "Pool(..)")?;
     assert_equal(&rt, pool.add(7), Ok(()));
     let mut get = pool.get_owned();
     is_sent(&get);
@@ -29,12 +25,12 @@ pub(super) fn derefs<R: Runtime + Abort, L: PoolPermits>(
     };
     is_sent(&guard);
     assert_equal(&rt, *guard, 7);
-    assert_equal(&rt, format!(in rt.alloc(); "{guard:?}")?.as_str(), "7");
+    assert_prints(&rt, format_args!("{guard:?}"), "7")?;
     drop(guard);
     let Poll::Ready(Ok(guard)) = task.poll(&mut pool.get()) else {
         panic!(&rt; "not served");
     };
-    assert_equal(&rt, format!(in rt.alloc(); "{guard:?}")?.as_str(), "7");
+    assert_prints(&rt, format_args!("{guard:?}"), "7")?;
     drop(guard);
     let Poll::Ready(Ok(mut guard)) = task.poll(&mut pool.get_owned()) else {
         panic!(&rt; "not served");

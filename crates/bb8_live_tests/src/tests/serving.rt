@@ -3,12 +3,12 @@ ghost use Rattle.std.specs.Prelude.{◌≡◌, Ok, IfOk, length};
 
 use super::{SlowManager, SlowPool, assert_equal};
 use bb8::{
-    Builder, Gets, Job, Memory, Moment, NopCustomizer, NopErrorSink, PoolCalls, PoolPermits,
-    Runtime, Service, SetClock, start,
+    Builder, Gets, Job, Moment, NopCustomizer, NopErrorSink, PoolCalls, PoolPermits, Runtime,
+    Service, SetClock, start,
 };
+use bb8_trials::Number;
 use futures::executor::block_on;
 use std::process::Abort;
-use std::sync::atomic::{AtomicU64, Ordering};
 use std::test::Fail;
 use std::thread::Threads;
 use std::time::Clock;
@@ -19,9 +19,9 @@ struct CallCounter<R> {
     rt: R,
     /// The connection that it adds when it begins.
     connection: u64,
-    begun: AtomicU64,
-    run: AtomicU64,
-    ended: AtomicU64,
+    begun: Number,
+    run: Number,
+    ended: Number,
 }
 
 impl<R: Runtime + Abort> CallCounter<R> {
@@ -29,19 +29,15 @@ impl<R: Runtime + Abort> CallCounter<R> {
         CallCounter {
             rt,
             connection,
-            begun: AtomicU64::new(0),
-            run: AtomicU64::new(0),
-            ended: AtomicU64::new(0),
+            begun: Number::new(0),
+            run: Number::new(0),
+            ended: Number::new(0),
         }
     }
 
     /// Returns how often it began, ran and ended.
     fn calls(&self) -> (u64, u64, u64) {
-        (
-            self.begun.load(Ordering::SeqCst),
-            self.run.load(Ordering::SeqCst),
-            self.ended.load(Ordering::SeqCst),
-        )
+        (self.begun.get(), self.run.get(), self.ended.get())
     }
 }
 
@@ -54,16 +50,13 @@ impl<R: Runtime + Abort> Service<SlowManager, NopErrorSink, NopCustomizer, SetCl
     type Outcome = Option<bool>;
 
     fn begin<L: PoolPermits>(&self, pool: &SlowPool<R, L>) -> Result<(), Option<bool>> {
-        self.begun.fetch_add(1, Ordering::SeqCst);
-        match pool.add(self.connection) {
-            Ok(()) => Ok(()),
-            Err(_) => Err(None),
-        }
+        self.begun.count();
+        pool.add(self.connection).map_err(|_| None)
     }
 
     /// Uses the thread's own handle.
     fn run<L: PoolPermits>(&self, pool: &SlowPool<R, L>, thread: usize) -> Option<usize> {
-        self.run.fetch_add(1, Ordering::SeqCst);
+        self.run.count();
         let handle = pool.try_clone().ok()?;
         let results = match block_on(&self.rt, handle.get()) {
             Ok(Ok(guard)) if *guard == self.connection => Some(thread),
@@ -77,7 +70,7 @@ impl<R: Runtime + Abort> Service<SlowManager, NopErrorSink, NopCustomizer, SetCl
         _pool: &SlowPool<R, L>,
         results: &[Option<usize>],
     ) -> Option<bool> {
-        self.ended.fetch_add(1, Ordering::SeqCst);
+        self.ended.count();
         let in_order = results
             .iter()
             .enumerate()
@@ -91,13 +84,10 @@ impl<R: Runtime + Abort> Service<SlowManager, NopErrorSink, NopCustomizer, SetCl
 fn serve_four<R: Runtime + Abort + Threads + Clock>(
     rt: R,
     service: &CallCounter<R>,
-) -> Result<Option<bool>, Memory> {
+) -> Result<Option<bool>, Fail> {
     let clock = SetClock::new(rt.alloc(), Moment(0))?;
     let builder = Builder::new().max_size(1).test_on_check_out(false);
-    match builder.serve(SlowManager, clock, rt, 4, service) {
-        Ok(outcome) => Ok(outcome),
-        Err(_) => Err(Memory),
-    }
+    Ok(builder.serve(SlowManager, clock, rt, 4, service)?)
 }
 
 #[test]
@@ -144,15 +134,12 @@ impl<R: Runtime + Abort> Service<SlowManager, NopErrorSink, NopCustomizer, SetCl
 }
 
 /// Returns how many threads ran: the service's own relations prove it to the caller of `serve`.
-fn how_many<R: Runtime + Abort + Threads + Clock>(rt: R, threads: usize) -> Result<usize, Memory>
+fn how_many<R: Runtime + Abort + Threads + Clock>(rt: R, threads: usize) -> Result<usize, Fail>
     ensures { IfOk result (λ ran. ran ≡ threads) }
 {
     let clock = SetClock::new(rt.alloc(), Moment(0))?;
     let builder = Builder::new().max_size(3).test_on_check_out(false);
-    match builder.serve(SlowManager, clock, rt, threads, &HowMany) {
-        Ok(ran) => Ok(ran),
-        Err(_) => Err(Memory),
-    }
+    Ok(builder.serve(SlowManager, clock, rt, threads, &HowMany)?)
 }
 
 #[test]
@@ -176,9 +163,6 @@ impl Job for OwnNumber {
 
 #[test]
 fn job_gets_the_number_of_its_thread(rt: HostRuntime) -> Result<(), Fail> {
-    match start(&rt, 7, OwnNumber) {
-        Ok(thread) => assert_equal(&rt, thread.join(&rt), 7),
-        Err(_) => return Err(Fail::new("no thread")),
-    }
+    assert_equal(&rt, start(&rt, 7, OwnNumber)?.join(&rt), 7);
     Ok(())
 }

@@ -2,7 +2,7 @@
 ghost use Rattle.bb8.specs.Permits.{IsBlankOf, unchecked_of};
 ghost use Rattle.bb8.specs.Settings.{default_settings};
 
-use super::calls::{Desk, Teller, TellerPool, connection, outside_on};
+use super::calls::{Desk, Teller, TellerPool, teller_on};
 use super::{SlowManager, assert_equal};
 use bb8::{
     Builder, Building, Driver, DriverCalls, Guards, GuardsCalls, Job, Memory, Moment,
@@ -87,11 +87,11 @@ fn waits_for_nobody<R: Runtime + Abort + Threads, L: PoolPermits + 'static>(
     let pool: TellerPool<R, L> = Builder::new()
         .max_size(2)
         .test_on_check_out(false)
-        .error_sink(outside_on(desk)?)
-        .connection_customizer(outside_on(desk)?)
-        .build_unchecked(outside_on(desk)?, outside_on(desk)?, rt, blank)?;
-    assert!(&rt; pool.add(connection(desk)?).is_ok());
-    assert!(&rt; pool.add(connection(desk)?).is_ok());
+        .error_sink(teller_on(desk, "")?)
+        .connection_customizer(teller_on(desk, "")?)
+        .build_unchecked(teller_on(desk, "")?, teller_on(desk, "")?, rt, blank)?;
+    assert!(&rt; pool.add(teller_on(desk, "dropped")?).is_ok());
+    assert!(&rt; pool.add(teller_on(desk, "dropped")?).is_ok());
     let Some(guard) = LentHandle::lend(&pool, &task) else {
         panic!(&rt; "not served");
     };

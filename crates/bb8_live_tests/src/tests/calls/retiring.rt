@@ -7,7 +7,7 @@ use std::process::Abort;
 /// All connections are retired: two idle ones are dropped at once, and one that is checked out when
 /// it is returned.
 pub(super) fn retired<R: Runtime + Abort, L: PoolPermits>(
-    tools: &Tools<'_, R>,
+    tools: &Tools<R>,
     pool: &TellerPool<R, L>,
 ) -> Result<(), Memory> {
     tools.add(pool)?;
