@@ -1,7 +1,7 @@
 //! Tests against values from outside: rows that were worked out by hand, each call once, audits
 //! that must fail, and refused memory.
 
-use bb8_core::api::{Moment, State, Statistics};
+use bb8_core::api::Moment;
 use bb8_core::internals::{Grant, PoolInternals};
 use bb8_core::replay::{Act, Answer, Event, Known, apply};
 use bb8_runner::grammar::event_of;
@@ -29,26 +29,11 @@ fn assert_equal<T: PartialEq + Debug + Drop>(rt: &impl Abort, found: T, wanted: 
 /// Three gets are served while two connections are kept idle, and all are returned.
 const FIRST_SCRIPT: &[u8] = b"\
     config max_size=5 min_idle=2 check=off\n\
-    0 fill\n\
-    0 claim\n\
-    0 claim\n\
-    0 open 0\n\
-    0 open 1\n\
-    0 begin\n\
-    0 try 0\n\
-    0 claim\n\
-    0 open 2\n\
-    0 begin\n\
-    0 try 1\n\
-    0 claim\n\
-    0 open 3\n\
-    0 begin\n\
-    0 try 2\n\
-    0 claim\n\
-    0 open 4\n\
-    0 return 0\n\
-    0 return 1\n\
-    0 return 2\n";
+    0 fill\n0 claim\n0 claim\n0 open 0\n0 open 1\n\
+    0 begin\n0 try 0\n0 claim\n0 open 2\n\
+    0 begin\n0 try 1\n0 claim\n0 open 3\n\
+    0 begin\n0 try 2\n0 claim\n0 open 4\n\
+    0 return 0\n0 return 1\n0 return 2\n";
 
 /// Returns a grant from a number on, with this many granted and withheld.
 fn grant(first: u64, count: u32, withheld: u32) -> Grant {
@@ -56,15 +41,6 @@ fn grant(first: u64, count: u32, withheld: u32) -> Grant {
         first,
         count,
         withheld,
-    }
-}
-
-/// Returns the state of a pool to which nothing has happened.
-fn nothing() -> State {
-    State {
-        connections: 0,
-        idle_connections: 0,
-        statistics: Statistics::default(),
     }
 }
 
@@ -103,7 +79,7 @@ impl Player {
             };
             let answer = apply(&mut self.pool, &mut self.known, event);
             let (read, searched) = (self.pool.examined(), self.pool.searched());
-            let written = output(self.alloc, &[answer], nothing())?;
+            let written = output(self.alloc, &[answer], self.pool.state(Moment(0)))?;
             let result = written.split('\n').next().unwrap_or("");
             let (wanted, counts) = wanted.split_once(" | ").unwrap_or((wanted, ""));
             assert_eq!(rt; result, wanted, "{line}");

@@ -112,11 +112,7 @@ impl<R: Runtime + Eprint> Service<
     }
 
     fn end<L: PoolPermits>(&self, _pool: &FilePool<R, L>, results: &[u64]) -> u64 {
-        let mut sum: u64 = 0;
-        for one in results {
-            sum = sum.saturating_add(*one);
-        }
-        sum
+        results.iter().fold(0, |sum, one| sum.saturating_add(*one))
     }
 }
 

@@ -22,6 +22,10 @@ const ROUNDS: u32 = 25;
 /// refused.
 const AMOUNTS: u32 = 5;
 
+/// What the databases hold in the end, and the pool's state. None if a get was not served, or a
+/// database could not be read.
+type Visits = Option<(Sums, State)>;
+
 /// The pool of the service.
 type DatabasePool<R, L> = PlainPool<Blocking<Databases>, R, L>;
 
@@ -34,17 +38,13 @@ struct SharedDatabases<R> {
 
 impl<R: Runtime> Service<Blocking<Databases>, NopErrorSink, NopCustomizer, MachineClock<R>, R>
     for SharedDatabases<R> {
-    /// None if a get was not served, or a database could not be read.
+    /// None in the cases of `Visits`.
     type Output = Option<Sums>;
 
-    /// None in the same cases.
-    type Outcome = Option<(Sums, State)>;
+    type Outcome = Visits;
 
     /// Does nothing: the pool opens its connections by itself.
-    fn begin<L: PoolPermits>(
-        &self,
-        _pool: &DatabasePool<R, L>,
-    ) -> Result<(), Option<(Sums, State)>> {
+    fn begin<L: PoolPermits>(&self, _pool: &DatabasePool<R, L>) -> Result<(), Visits> {
         Ok(())
     }
 
@@ -66,11 +66,7 @@ impl<R: Runtime> Service<Blocking<Databases>, NopErrorSink, NopCustomizer, Machi
 
     /// Checks out all connections at once, and adds what their databases hold to the threads'
     /// results.
-    fn end<L: PoolPermits>(
-        &self,
-        pool: &DatabasePool<R, L>,
-        results: &[Option<Sums>],
-    ) -> Option<(Sums, State)> {
+    fn end<L: PoolPermits>(&self, pool: &DatabasePool<R, L>, results: &[Option<Sums>]) -> Visits {
         let mut sums = Sums::default();
         for one in results {
             sums = sums.plus((*one)?);

@@ -115,8 +115,7 @@ fn run<R: Runtime + Threads, L: PoolPermits + 'static>(
 /// Runs the phases and prints a line for each.
 fn main(rt: HostRuntime) -> io::Result<ExitCode> {
     let mut args = env::args(&rt)?;
-    let _ = args.next();
-    let rounds: Option<u64> = args.next().and_then(|text| text.as_str().parse().ok());
+    let rounds: Option<u64> = args.nth(1).and_then(|text| text.as_str().parse().ok());
     let Some(rounds) = rounds else {
         println!(rt; "ROUNDS")?;
         return Ok(ExitCode::FAILURE);

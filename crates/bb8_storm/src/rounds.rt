@@ -145,14 +145,11 @@ impl<R: Runtime, L: PoolPermits> Job for &Storm<'_, R, L> {
             self.harness.wrong.count();
             return;
         };
-        let seed = self
-            .phase
-            .saturating_mul(1000)
-            .saturating_add(thread as u64);
+        let seed = self.phase.saturating_mul(1000);
         let hand = Hand {
             harness: self.harness,
             task,
-            source: RandomSource::new(seed),
+            source: RandomSource::new(seed.saturating_add(thread as u64)),
         };
         for _ in 0..self.rounds {
             self.round(&hand);

@@ -2,14 +2,14 @@
 //! entries.
 
 use super::{Player, assert_equal, grant};
+use Act::{Begin, Claim, Opened, PutBack, Try};
+use Answer::{Begun, Claimed, Entered, Kept, Served, Waiting};
 use bb8_core::replay::{Act, Answer};
 use std::process::Abort;
 use std::test::Fail;
 
-/// The number of waiters, and the last of them.
-const CROWD: u64 = 25_000;
-
-const LAST: u64 = CROWD - 1;
+/// The last of the waiters.
+const LAST: u64 = 24_999;
 
 impl Player {
     /// Makes an event, and asserts its result, and that it read at most four entries.
@@ -20,12 +20,8 @@ impl Player {
 
     /// Serves a get with a connection, whose return notifies another get.
     fn serves(&mut self, rt: &impl Abort, number: u64, get: u64, notified: Option<u64>) {
-        self.reads_few(rt, Act::Try(get), Answer::Served(number, grant(3, 0, 0)));
-        self.reads_few(
-            rt,
-            Act::PutBack(number, false),
-            Answer::Kept(number, notified),
-        );
+        self.reads_few(rt, Try(get), Served(number, grant(3, 0, 0)));
+        self.reads_few(rt, PutBack(number, false), Kept(number, notified));
     }
 }
 
@@ -36,15 +32,14 @@ impl Player {
 fn crowd_is_served_over_three_connections(rt: HostRuntime) -> Result<(), Fail> {
     let config = "config max_size=3 check=off";
     let mut player = Player::new(rt.alloc(), config).expect(&rt, "no memory");
-    for get in 0..CROWD {
-        player.reads_few(&rt, Act::Begin, Answer::Begun(get));
+    for get in 0..25_000 {
+        player.reads_few(&rt, Begin, Begun(get));
         let granted = grant(get.min(3), if get < 3 { 1 } else { 0 }, 0);
-        player.reads_few(&rt, Act::Try(get), Answer::Waiting(granted));
+        player.reads_few(&rt, Try(get), Waiting(granted));
     }
     for number in 0..3 {
-        player.reads_few(&rt, Act::Claim, Answer::Claimed(Some(number)));
-        let entered = Answer::Entered(number, Some(number));
-        player.reads_few(&rt, Act::Opened(number), entered);
+        player.reads_few(&rt, Claim, Claimed(Some(number)));
+        player.reads_few(&rt, Opened(number), Entered(number, Some(number)));
     }
     player.serves(&rt, 0, 0, Some(3));
     for get in 3..LAST {

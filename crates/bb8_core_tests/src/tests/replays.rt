@@ -21,8 +21,7 @@ const REPLAYS: [(u64, u64, &str, &str); 3] = [
         LAST,
         "config\n0 begin\n0 begin\n",
         "\
-        begun 18446744073709551614\n\
-        exhausted\n\
+        begun 18446744073709551614\nexhausted\n\
         state connections 0 idle 0 started 1 direct 0 waited 0 timed_out 0 cancelled 0 wait_us 0 created 0 broken 0 invalid 0 lifetime 0 idle_timeout 0\n",
     ),
     (
@@ -31,11 +30,8 @@ const REPLAYS: [(u64, u64, &str, &str); 3] = [
         "config max_size=5 min_idle=5 check=off\n0 fill\n0 claim\n0 claim\n0 claim\n0 open 18446744073709551614\n0 open 18446744073709551613\n",
         "\
         granted grant 2 at 18446744073709551613 withheld 3\n\
-        claimed 18446744073709551613\n\
-        claimed 18446744073709551614\n\
-        none\n\
-        entered 18446744073709551614\n\
-        entered 18446744073709551613\n\
+        claimed 18446744073709551613\nclaimed 18446744073709551614\nnone\n\
+        entered 18446744073709551614\nentered 18446744073709551613\n\
         state connections 2 idle 2 started 0 direct 0 waited 0 timed_out 0 cancelled 0 wait_us 0 created 2 broken 0 invalid 0 lifetime 0 idle_timeout 0\n",
     ),
     (
@@ -43,10 +39,7 @@ const REPLAYS: [(u64, u64, &str, &str); 3] = [
         0,
         "config max_size=5 min_idle=3 check=off\n0 fill\n0 add\n0 add broken\n0 fill\n",
         "\
-        granted grant 2 at 18446744073709551613 withheld 1\n\
-        withheld\n\
-        broken\n\
-        granted withheld 1\n\
+        granted grant 2 at 18446744073709551613 withheld 1\nwithheld\nbroken\ngranted withheld 1\n\
         state connections 0 idle 0 started 0 direct 0 waited 0 timed_out 0 cancelled 0 wait_us 0 created 0 broken 0 invalid 0 lifetime 0 idle_timeout 0\n",
     ),
 ];

@@ -13,11 +13,7 @@ mod refusals;
 
 /// One connection is added, checked out and returned.
 const SCRIPT: &[u8] = b"\
-    config max_size=1 check=off\n\
-    0 add\n\
-    0 begin\n\
-    0 try 0\n\
-    0 return 0\n";
+    config max_size=1 check=off\n0 add\n0 begin\n0 try 0\n0 return 0\n";
 
 /// The number of a call that is never made.
 const NEVER: u32 = u32::MAX;

@@ -13,7 +13,7 @@ use bb8::{
 };
 use bb8_trials::{
     Board, Course, Errors, OneTurn, OwnedHandle, Polled, Refused, Server, ServerBuilder,
-    ServerConnection, ServerPool, Unbuilt, builder_on, connection_on, server_on, sizes,
+    ServerPool, Unbuilt, builder_on, connection_on, server_on, sizes,
 };
 use futures::task::Poll;
 use futures::test::MockTask;
@@ -27,11 +27,6 @@ use std::thread::Threads;
 /// Whether a request for memory is refused.
 fn is_refused(alloc: Global) -> bool {
     Box::new(alloc, 0_u8).is_err()
-}
-
-/// Makes one more connection of a board, without memory.
-fn make(board: &Arc<Board, Global>) -> Result<ServerConnection, Memory> {
-    connection_on(board, board.begun.count())
 }
 
 /// Returns the value of a poll that is not pending, and fails with nothing but `Memory`. None if
@@ -69,7 +64,7 @@ fn builds<B: Unbuilt<Server>>(
         return Ok(false);
     };
     assert_equal(rt, sizes(pool.state()), (2, 2));
-    match pool.add(make(board)?) {
+    match pool.add(connection_on(board, board.begun.count())?) {
         Ok(()) => assert_equal(rt, sizes(pool.state()), (3, 3)),
         Err(AddError::Withheld(conn)) => {
             assert_equal(rt, sizes(pool.state()), (2, 2));
@@ -102,11 +97,8 @@ fn opens<R: Abort + AllocGlobal, P: OwnedHandle<Server>, D: DriverCalls>(
     let first = driver.turn(Moment(0));
     let (opened, _) = sizes(pool.state());
     assert_equal(rt, (first.ended, first.polled), (false, u64::from(opened)));
-    let left = if is_refused(rt.alloc()) {
-        0
-    } else {
-        3_u32.saturating_sub(opened)
-    };
+    let rest = 3_u32.saturating_sub(opened);
+    let left = if is_refused(rt.alloc()) { 0 } else { rest };
     let second = driver.turn(Moment(0));
     assert_equal(rt, (second.ended, second.polled), (false, u64::from(left)));
     let all = opened.saturating_add(left);
@@ -135,7 +127,8 @@ fn hangs<R: Runtime + Abort + Threads + Eprint, L: PoolPermits + 'static>(
             false
         }
     };
-    assert!(&rt; OwnedHandle::add(&pool, make(board)?).is_ok());
+    let conn = connection_on(board, board.begun.count())?;
+    assert!(&rt; OwnedHandle::add(&pool, conn).is_ok());
     assert_equal(&rt, sizes(OwnedHandle::state(&pool)), (1, 1));
     Ok(is_run)
 }
@@ -154,9 +147,7 @@ fn run_on<R: Runtime + Abort + Threads + Eprint, L: PoolPermits + 'static>(
     let clock = SetClock::new(rt.alloc(), Moment(0))?;
     let server = server_on(board)?;
     if first == 2 {
-        let Ok(task) = MockTask::new(&rt) else {
-            return Err(Memory);
-        };
+        let task = MockTask::new(&rt).map_err(|_| Memory)?;
         let building: Building<Server, Errors, NopCustomizer, SetClock, R, L> = builder.build(
             server, clock, rt, blank,
         );

@@ -8,31 +8,21 @@ use std::thread::{self, Threads};
 use std::time::{Clock, CpuClock, Duration};
 
 /// How threads wait, and what ends their wait.
-#[derive(Clone, Copy)]
-struct Trial {
-    /// The number of threads. The first one holds the connection.
-    threads: usize,
-    /// For how many milliseconds it is held.
-    hold: u64,
-    /// By how many milliseconds each thread begins to wait later than the previous one.
-    apart: u64,
-    /// Whether the first served thread holds it again for the same time.
-    again: bool,
-    /// Whether they wait with their own handles.
-    owned: bool,
-    /// Whether the pool is closed, and the connection not returned.
-    closes: bool,
+#[derive(Clone, Copy, PartialEq, Eq)]
+enum How {
+    /// With a handle that they share, until the connection is returned.
+    Shared,
+    /// In the same way, and the first served one holds the connection again for the same time.
+    Again,
+    /// With their own handles.
+    Owned,
+    /// Until the pool is closed. The connection is not returned.
+    Closes,
 }
 
-/// One thread that waits until the connection is returned.
-const ONE: Trial = Trial {
-    threads: 2,
-    hold: 70,
-    apart: 0,
-    again: false,
-    owned: false,
-    closes: false,
-};
+/// The number of threads, and for how many milliseconds the first one holds the connection; by how
+/// many each of the others begins to wait later than the previous one; and how they wait.
+type Trial = (usize, u64, u64, How);
 
 /// Thread 0 holds the only connection for a while, and the other threads wait meanwhile.
 #[derive(Drop)]
@@ -44,39 +34,20 @@ struct Waiting {
     served: Number,
 }
 
-/// Measures a wait. (A trait because of *trait-for-threads*.)
-trait Ends<R> {
-    /// Returns the measurements of a get that ended just now, and holds its connection again if the
-    /// trial says so. None if it had another result than it should.
-    fn ended(&self, bench: &Bench<R>, before: u64, is_right: bool) -> Times;
-}
-
-impl<R: Runtime + CpuClock> Ends<R> for Waiting {
-    fn ended(&self, bench: &Bench<R>, before: u64, is_right: bool) -> Times {
-        let rt = &bench.rt;
-        let used = nanos(rt.thread_cpu_time()).saturating_sub(before);
-        let after = nanos(rt.monotonic()).saturating_sub(bench.meter.caused.get());
-        if self.trial.again && self.served.count() == 1 {
-            thread::sleep(rt, Duration::from_millis(self.trial.hold));
-        }
-        is_right.then_some([used, after, 0])
-    }
-}
-
 impl<R: Runtime + CpuClock> Work<R> for Waiting {
     /// The processor time that a thread used while it waited, and how long after the cause its get
     /// ended, in nanoseconds.
     fn run<L: PoolPermits>(&self, bench: &Bench<R>, pool: &Metered<R, L>, thread: usize) -> Times {
         let rt = &bench.rt;
-        let trial = self.trial;
-        let hold = Duration::from_millis(trial.hold);
+        let (_, hold, apart, how) = self.trial;
+        let hold = Duration::from_millis(hold);
         if thread == 0 {
             let guard = pool.get_blocking().ok()?;
             bench.board.opening.set(Course::Lasts);
             self.held.set(1);
             thread::sleep(rt, hold);
             bench.meter.caused.set(nanos(rt.monotonic()));
-            if trial.closes {
+            if how == How::Closes {
                 pool.close(rt.alloc());
                 thread::sleep(rt, hold);
             }
@@ -85,21 +56,24 @@ impl<R: Runtime + CpuClock> Work<R> for Waiting {
         }
         self.held.comes_to(1, true);
         for _ in 1..thread {
-            thread::sleep(rt, Duration::from_millis(trial.apart));
+            thread::sleep(rt, Duration::from_millis(apart));
         }
         let before = nanos(rt.thread_cpu_time());
-        if trial.closes {
-            let RunError::TimedOut = pool.get_blocking().err()? else {
-                return None;
-            };
-            return self.ended(bench, before, true);
+        let guard = match how {
+            How::Shared | How::Again => pool.get_blocking().ok(),
+            How::Owned | How::Closes => None,
+        };
+        let is_right = match how {
+            How::Shared | How::Again => guard.is_some(),
+            How::Owned => pool.get_owned_blocking().is_ok(),
+            How::Closes => pool.get_blocking().err() == Some(RunError::TimedOut),
+        };
+        let used = nanos(rt.thread_cpu_time()).saturating_sub(before);
+        let after = nanos(rt.monotonic()).saturating_sub(bench.meter.caused.get());
+        if how == How::Again && self.served.count() == 1 {
+            thread::sleep(rt, hold);
         }
-        if trial.owned {
-            let got = pool.get_owned_blocking();
-            return self.ended(bench, before, got.is_ok());
-        }
-        let got = pool.get_blocking();
-        self.ended(bench, before, got.is_ok())
+        is_right.then_some([used, after, 0])
     }
 }
 
@@ -112,7 +86,7 @@ fn wait_in<R: Runtime + CpuClock + Threads>(rt: R, trial: Trial) -> Result<[u64;
         held: Number::new(0),
         served: Number::new(0),
     };
-    serve(rt, &board, builder, trial.threads, work)?.measured()
+    serve(rt, &board, builder, trial.0, work)?.measured()
 }
 
 /// Four threads wait for a second; three of them are woken in between and wait for one more second.
@@ -120,30 +94,9 @@ fn wait_in<R: Runtime + CpuClock + Threads>(rt: R, trial: Trial) -> Result<[u64;
 /// that notification, would use most of a second.
 #[test]
 fn waiting_threads_sleep(rt: HostRuntime) -> Result<(), Fail> {
-    let trial = Trial {
-        threads: 5,
-        hold: 1000,
-        again: true,
-        ..ONE
-    };
+    let trial = (5, 1000, 0, How::Again);
     assert_below(&rt, 10_000_000, || Ok(wait_in(rt, trial)?[0]))
 }
-
-/// The trials of `return_wakes_a_waiter`.
-const WAKING: [Trial; 4] = [
-    ONE,
-    Trial { owned: true, ..ONE },
-    Trial {
-        closes: true,
-        ..ONE
-    },
-    Trial {
-        threads: 3,
-        hold: 62,
-        apart: 25,
-        ..ONE
-    },
-];
 
 /// A thread that only polled every 50 milliseconds would come 30 milliseconds after a return at 70.
 /// In a closed pool it times out at once, and not after its pool's 30 seconds.
@@ -154,7 +107,12 @@ const WAKING: [Trial; 4] = [
 /// next poll, at 100.
 #[test]
 fn return_wakes_a_waiter(rt: HostRuntime) -> Result<(), Fail> {
-    for trial in WAKING {
+    for trial in [
+        (2, 70, 0, How::Shared),
+        (2, 70, 0, How::Owned),
+        (2, 70, 0, How::Closes),
+        (3, 62, 25, How::Shared),
+    ] {
         assert_below(&rt, 20_000_000, || Ok(wait_in(rt, trial)?[1]))?;
     }
     Ok(())
@@ -169,20 +127,13 @@ impl<R: Runtime + CpuClock> Work<R> for InVain {
     fn run<L: PoolPermits>(&self, bench: &Bench<R>, pool: &Metered<R, L>, _thread: usize) -> Times {
         let _first = pool.get_owned_blocking().ok()?;
         let begun = nanos(bench.rt.monotonic());
-        let RunError::TimedOut = pool.get_blocking().err()? else {
-            return None;
-        };
+        let first = pool.get_blocking().err()?;
         let between = nanos(bench.rt.monotonic());
         let timeout = Duration::from_millis(120);
-        let RunError::TimedOut = pool.get_blocking_timeout(timeout).err()? else {
-            return None;
-        };
-        let ended = nanos(bench.rt.monotonic());
-        Some([
-            between.saturating_sub(begun),
-            ended.saturating_sub(between),
-            0,
-        ])
+        let second = pool.get_blocking_timeout(timeout).err()?;
+        let own = nanos(bench.rt.monotonic()).saturating_sub(between);
+        let is_right = first == RunError::TimedOut && second == RunError::TimedOut;
+        is_right.then_some([between.saturating_sub(begun), own, 0])
     }
 }
 
@@ -197,14 +148,9 @@ fn wait_ends_at_its_deadline(rt: HostRuntime) -> Result<(), Fail> {
             .min_idle(Some(1))
             .connection_timeout(Duration::from_millis(30));
         let [pools, own, _] = serve(rt, &board, builder, 1, InVain)?.measured()?;
-        assert!(&rt;
-            pools >= 30_000_000 && own >= 120_000_000,
-            "{pools} and {own} nanoseconds"
-        );
-        Ok(
-            pools
-                .saturating_sub(30_000_000)
-                .max(own.saturating_sub(130_000_000)),
-        )
+        let lasted = pools >= 30_000_000 && own >= 120_000_000;
+        assert!(&rt; lasted, "{pools} and {own} nanoseconds");
+        let late = pools.saturating_sub(30_000_000);
+        Ok(late.max(own.saturating_sub(130_000_000)))
     })
 }

@@ -2,6 +2,8 @@
 //! must fail an audit.
 
 use crate::tests::grant;
+use Act::{Begin, GiveUp, Join, Try};
+use Answer::{Begun, Exhausted, GaveUp, Joined, Unfit, Waiting};
 use bb8_core::api::Moment;
 use bb8_core::replay::{Act, Answer, Event, Reason};
 use bb8_journal::journal::{Entry, Notes, audit};
@@ -19,61 +21,46 @@ fn entry(seat: usize, act: Act, answer: Answer) -> Entry {
 
 /// A get begins and is cancelled while another seat adds a handle.
 fn history() -> [Entry; 4] {
-    let cancelled = Act::GiveUp(0, Reason::Cancelled, false);
     [
-        entry(0, Act::Begin, Answer::Begun(0)),
-        entry(1, Act::Join, Answer::Joined),
-        entry(0, cancelled, Answer::GaveUp(None)),
-        entry(1, Act::Try(0), Answer::Unfit),
+        entry(0, Begin, Begun(0)),
+        entry(1, Join, Joined),
+        entry(0, GiveUp(0, Reason::Cancelled, false), GaveUp(None)),
+        entry(1, Try(0), Unfit),
     ]
 }
 
-/// Returns the notes of the two seats on the history, with no note missing.
-fn notes(alloc: Global) -> Result<[Notes; 2], AllocError> {
-    let first = [(0, Answer::Begun(0)), (2, Answer::GaveUp(None))];
-    let second = [(1, Answer::Joined), (3, Answer::Unfit)];
-    Ok([
-        Notes {
-            seat: 0,
-            noted: first.iter().copied().collect(alloc)?,
-            missing: 0,
-        },
-        Notes {
-            seat: 1,
-            noted: second.iter().copied().collect(alloc)?,
-            missing: 0,
-        },
-    ])
+/// Returns the notes of a seat on two events, with no note missing.
+fn notes(alloc: Global, seat: usize, noted: [(u64, Answer); 2]) -> Result<Notes, AllocError> {
+    Ok(Notes {
+        seat,
+        noted: noted.iter().copied().collect(alloc)?,
+        missing: 0,
+    })
 }
 
+/// An audit fails if one answer or one seat of the history is another.
 #[test]
-fn journal_answer_differs(rt: HostRuntime) -> Result<(), Fail> {
-    let notes = notes(rt.alloc())?;
+fn journal_differs(rt: HostRuntime) -> Result<(), Fail> {
+    let first = notes(rt.alloc(), 0, [(0, Begun(0)), (2, GaveUp(None))])?;
+    let second = notes(rt.alloc(), 1, [(1, Joined), (3, Unfit)])?;
+    let notes = [first, second];
     assert!(&rt; audit(&history(), &notes));
-    for (index, answer) in [
-        (0, Answer::Begun(1)),
-        (1, Answer::Exhausted),
-        (2, Answer::GaveUp(Some(0))),
-        (3, Answer::Waiting(grant(0, 0, 0))),
+    for (index, seat, answer) in [
+        (0, 0, Begun(1)),
+        (1, 1, Exhausted),
+        (2, 0, GaveUp(Some(0))),
+        (3, 1, Waiting(grant(0, 0, 0))),
+        (0, 1, Begun(0)),
+        (1, 0, Joined),
+        (2, 2, GaveUp(None)),
     ] {
         let mut entries = history();
         if let Some(entry) = entries.get_mut(index) {
+            entry.seat = seat;
             entry.answer = answer;
         }
-        assert!(&rt; !audit(&entries, &notes), "{answer:?} at {index}");
-    }
-    Ok(())
-}
-
-#[test]
-fn journal_other_seat(rt: HostRuntime) -> Result<(), Fail> {
-    let notes = notes(rt.alloc())?;
-    for (index, seat) in [(0, 1), (1, 0), (2, 2)] {
-        let mut entries = history();
-        if let Some(entry) = entries.get_mut(index) {
-            entry.seat = seat;
-        }
-        assert!(&rt; !audit(&entries, &notes), "seat {seat} at {index}");
+        let passes = audit(&entries, &notes);
+        assert!(&rt; !passes, "{answer:?} of seat {seat} at {index}");
     }
     Ok(())
 }

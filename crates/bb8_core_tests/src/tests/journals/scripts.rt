@@ -3,8 +3,7 @@
 use super::assert_equal;
 use crate::tests::FIRST_SCRIPT;
 use bb8_runner::threads::script::run_threads;
-use bb8_runner::verdict::Verdict;
-use std::alloc::{AllocError, Global};
+use bb8_runner::verdict::Verdict::{self, Bad, Ran};
 use std::fmt::Write;
 use std::io;
 use std::process::Abort;
@@ -26,68 +25,38 @@ fn assert_runs<R: Threads + Wait + AllocGlobal + Abort + Sync>(
     wanted: &str,
 ) {
     assert!(rt; threads > 0);
-    let (mut reader, mut written) = (input, Vec::new(rt.alloc()));
-    let outcome = run_threads(
-        rt,
-        rt.alloc(),
-        threads,
-        &mut reader,
-        &mut written,
-        &mut io::sink(),
-    );
+    let (mut reader, mut text, mut sink) = (input, Vec::new(rt.alloc()), io::sink());
+    let outcome = run_threads(rt, rt.alloc(), threads, &mut reader, &mut text, &mut sink);
     assert_equal(rt, outcome, Ok(verdict));
-    assert!(rt;
-        written.starts_with(wanted.as_bytes()),
-        "{threads}: {wanted}"
-    );
+    let begins = text.starts_with(wanted.as_bytes());
+    assert!(rt; begins, "{threads}: {wanted}");
 }
 
-/// The first script in one thread: 20 entries, `audit yes`, and its state line.
+/// The first script in 1, 4 and 64 threads. Events that do not fit are entries, too.
 #[test]
-fn succeeds_first_script_in_one_thread(rt: HostRuntime) {
-    assert_runs(&rt, 1, FIRST_SCRIPT, Verdict::Ran, FIRST_RESULT);
-}
-
-/// In 4 and 64 threads. Events that do not fit are entries, too.
-#[test]
-fn first_script_in_many_threads(rt: HostRuntime) {
+fn short_scripts_in_threads(rt: HostRuntime) {
+    assert_runs(&rt, 1, FIRST_SCRIPT, Ran, FIRST_RESULT);
     for threads in [4, 64] {
-        assert_runs(
-            &rt,
-            threads,
-            FIRST_SCRIPT,
-            Verdict::Ran,
-            "entries 20\naudit yes\nstate ",
-        );
+        let wanted = "entries 20\naudit yes\nstate ";
+        assert_runs(&rt, threads, FIRST_SCRIPT, Ran, wanted);
     }
-    assert_runs(
-        &rt,
-        2,
-        b"config\n0 return 7\n0 leave\n0 leave\n",
-        Verdict::Ran,
-        "entries 3\naudit yes\nstate connections 0 idle 0 ",
-    );
+    let unfit = b"config\n0 return 7\n0 leave\n0 leave\n";
+    let wanted = "entries 3\naudit yes\nstate connections 0 idle 0 ";
+    assert_runs(&rt, 2, unfit, Ran, wanted);
     let wrong = b"config\n0 begin\n0 beginn\n";
-    assert_runs(&rt, 4, wrong, Verdict::Bad, "line 3: not an event\n");
+    assert_runs(&rt, 4, wrong, Bad, "line 3: not an event\n");
 }
 
-/// Returns a script of 100,000 events. None depends on another thread's.
-fn long_script(alloc: Global) -> Result<String, AllocError> {
-    let mut text = String::new(alloc);
-    text.push_str("config max_size=20 min_idle=5 check=off\n")?;
-    for at in 0..20_000u64 {
-        writeln!(
-            text,
-            "{at} fill\n{at} claim\n{at} add\n{at} join\n{at} look"
-        )?;
-    }
-    Ok(text)
-}
-
+/// 100,000 events. None depends on another thread's.
 #[test]
 fn long_script_in_four_threads(rt: HostRuntime) -> Result<(), Fail> {
-    let script = long_script(rt.alloc())?;
+    let mut script = String::new(rt.alloc());
+    script.push_str("config max_size=20 min_idle=5 check=off\n")?;
+    for at in 0..20_000u64 {
+        write!(script, "{at} fill\n{at} claim\n{at} add\n")?;
+        writeln!(script, "{at} join\n{at} look")?;
+    }
     let wanted = "entries 100000\naudit yes\nstate ";
-    assert_runs(&rt, 4, script.as_bytes(), Verdict::Ran, wanted);
+    assert_runs(&rt, 4, script.as_bytes(), Ran, wanted);
     Ok(())
 }

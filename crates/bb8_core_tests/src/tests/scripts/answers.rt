@@ -2,8 +2,9 @@
 //! numbers.
 
 use super::assert_equal;
-use crate::tests::{grant, nothing};
-use bb8_core::api::Moment;
+use crate::tests::grant;
+use bb8_core::api::{Config, Moment};
+use bb8_core::internals::PoolInternals;
 use bb8_core::replay::Answer;
 use bb8_runner::text::output;
 use std::test::Fail;
@@ -38,7 +39,7 @@ fn prints_rare_answers(rt: HostRuntime) -> Result<(), Fail> {
         Answer::Left(4_294_967_295),
         Answer::Looked(Moment(18_446_744_073_709_551_615), true),
     ];
-    let mut state = nothing();
+    let mut state = PoolInternals::<u64>::new(rt.alloc(), Config::default()).state(Moment(0));
     state.statistics.connections_closed_retired = 12;
     state.statistics.connections_detached = 14;
     let text = output(rt.alloc(), &answers, state)?;

@@ -2,7 +2,7 @@
 
 use super::{Stream, assert_equal};
 use bb8_runner::script::run_script;
-use bb8_runner::verdict::Verdict;
+use bb8_runner::verdict::Verdict::{self, Bad, Ran};
 use std::process::Abort;
 use std::test::Fail;
 
@@ -65,7 +65,7 @@ fn assert_messages<R: Abort + AllocGlobal>(
         let (mut output, mut errors) = (Vec::new(alloc), Vec::new(alloc));
         let mut reader = input.as_bytes();
         let outcome = run_script(alloc, &mut reader, &mut output, &mut errors);
-        assert_equal(rt, outcome, Ok(Verdict::Bad));
+        assert_equal(rt, outcome, Ok(Bad));
         assert_equal(rt, errors.as_slice(), message.as_bytes());
     }
     Ok(())
@@ -83,17 +83,13 @@ const STATE: &[u8] =
 /// Inputs with their verdict and output: no line, last lines without their line feed, carriage
 /// returns, and bytes that are not text.
 const INPUTS: [(&[u8], Verdict, &[u8]); 5] = [
-    (b"", Verdict::Bad, b"line 1: not a configuration\n"),
-    (b"config", Verdict::Ran, STATE),
-    (b"config\n0 begi", Verdict::Bad, b"line 2: not an event\n"),
-    (
-        b"config\n0 look\r\n",
-        Verdict::Bad,
-        b"line 2: not an event\n",
-    ),
+    (b"", Bad, b"line 1: not a configuration\n"),
+    (b"config", Ran, STATE),
+    (b"config\n0 begi", Bad, b"line 2: not an event\n"),
+    (b"config\n0 look\r\n", Bad, b"line 2: not an event\n"),
     (
         b"config\n0 fill\n0 look\xff\n",
-        Verdict::Bad,
+        Bad,
         b"line 3: not an event\n",
     ),
 ];

@@ -47,34 +47,13 @@ fn is_refusal(answer: Answer) -> bool {
 /// opened or added.
 const SCRIPT: &[u8] = b"\
     config max_size=4 min_idle=1 lifetime=2000000000 idle=1000000000\n\
-    0 begin\n\
-    0 try 0\n\
-    0 fill\n\
-    0 claim\n\
-    0 open 0\n\
-    0 begin\n\
-    0 try 1\n\
-    0 ok 1\n\
-    0 return 0\n\
-    0 begin\n\
-    0 try 2\n\
-    0 cancel 2\n\
-    0 begin\n\
-    0 try 3\n\
-    0 err 3\n\
-    0 claim\n\
-    0 open 1\n\
-    0 try 3\n\
-    0 err 3 broken\n\
-    0 claim\n\
-    0 open 2\n\
-    0 try 3\n\
-    0 cancel 3 broken\n\
-    0 cancel 0\n\
-    0 add\n\
-    0 add\n\
-    1000000000 reap\n\
-    2000000000 reap\n";
+    0 begin\n0 try 0\n0 fill\n0 claim\n0 open 0\n\
+    0 begin\n0 try 1\n0 ok 1\n0 return 0\n\
+    0 begin\n0 try 2\n0 cancel 2\n\
+    0 begin\n0 try 3\n0 err 3\n0 claim\n0 open 1\n\
+    0 try 3\n0 err 3 broken\n0 claim\n0 open 2\n\
+    0 try 3\n0 cancel 3 broken\n0 cancel 0\n\
+    0 add\n0 add\n1000000000 reap\n2000000000 reap\n";
 
 /// Replays the script. Returns whether a result reports a refusal, and how many connections were
 /// opened or added: these are idle, or were closed. None if there is no memory for the script or
