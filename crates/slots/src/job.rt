@@ -26,7 +26,7 @@ pub trait Job: Drop {
 pub enum Outcome<O, E> {
     /// It was done, with this output.
     Done(O),
-    /// It never ran, for this error of its get; or there was no memory to keep the guard.
+    /// It never ran: its get failed with this error, or there was no memory to keep its guard.
     Refused(RunError<E>),
 }
 

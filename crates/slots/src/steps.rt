@@ -19,9 +19,9 @@ use std::collections::VecDeque;
 use std::sync::Wait;
 
 /// The result of a job's step.
-pub(crate) struct Stepped<J, O, G> {
-    /// The state after it.
-    pub(crate) place: JobPlace<J, O, G>,
+pub(crate) struct Stepped<P> {
+    /// The job's state after it.
+    pub(crate) place: P,
     /// 1 if the job ended in it, else 0.
     pub(crate) ended: u64,
 }
@@ -29,54 +29,44 @@ pub(crate) struct Stepped<J, O, G> {
 /// The steps of jobs, on the guards of the running ones. (A trait because of *trait-for-threads* in
 /// docs/TOOLCHAIN.md.)
 pub(crate) trait Steps<J> {
-    /// The outcome of a job.
-    type Outcome;
-
     /// The get of a waiting job.
     type Get;
 
+    /// The state of a job.
+    type Place;
+
+    /// The jobs with their states, in the order of their steps.
+    type Queue;
+
     /// Polls a running job once. If it is ready, its guard is dropped at once.
-    fn step_job(&mut self, job: J, now: Moment) -> Stepped<J, Self::Outcome, Self::Get>;
+    fn step_job(&mut self, job: J, now: Moment) -> Stepped<Self::Place>;
 
     /// Polls the get of a waiting job once.
-    fn step_get(
-        &mut self,
-        job: J,
-        get: Self::Get,
-        cx: &mut Context<'_>,
-    ) -> Stepped<J, Self::Outcome, Self::Get>;
+    fn step_get(&mut self, job: J, get: Self::Get, cx: &mut Context<'_>) -> Stepped<Self::Place>;
 
     /// Makes one step of a job in this state.
     fn step(
         &mut self,
-        place: JobPlace<J, Self::Outcome, Self::Get>,
+        place: Self::Place,
         now: Moment,
         cx: &mut Context<'_>,
-    ) -> Stepped<J, Self::Outcome, Self::Get>;
+    ) -> Stepped<Self::Place>;
 
     /// Makes one step of the first job, and moves it to the back. Returns how many jobs ended.
-    fn step_first(
-        &mut self,
-        queue: &mut VecDeque<JobEntry<J, Self::Outcome, Self::Get>>,
-        now: Moment,
-        cx: &mut Context<'_>,
-    ) -> u64;
+    fn step_first(&mut self, queue: &mut Self::Queue, now: Moment, cx: &mut Context<'_>) -> u64;
 
     /// Makes one step of each job, in their order. Returns how many jobs ended.
-    fn step_each(
-        &mut self,
-        queue: &mut VecDeque<JobEntry<J, Self::Outcome, Self::Get>>,
-        now: Moment,
-        cx: &mut Context<'_>,
-    ) -> u64;
+    fn step_each(&mut self, queue: &mut Self::Queue, now: Moment, cx: &mut Context<'_>) -> u64;
 }
 
 impl<'a, J: Job, G: PoolTypes<Runtime: Wait>, L: Permits> Steps<J> for Guards<'a, G, L> {
-    type Outcome = Outcome<J::Out, G::Error>;
-
     type Get = GetFuture<'a, G, L>;
 
-    fn step_job(&mut self, job: J, now: Moment) -> Stepped<J, Self::Outcome, Self::Get>
+    type Place = JobPlace<J, Outcome<J::Out, G::Error>, GetFuture<'a, G, L>>;
+
+    type Queue = VecDeque<JobEntry<J, Outcome<J::Out, G::Error>, GetFuture<'a, G, L>>>;
+
+    fn step_job(&mut self, job: J, now: Moment) -> Stepped<Self::Place>
         ensures steps { 0 < number_in self.old
             → StepsJob J.polls (GivesOneBack self.old) now job result.place result.ended }
         ensures held { 0 < number_in self.old
@@ -103,12 +93,7 @@ impl<'a, J: Job, G: PoolTypes<Runtime: Wait>, L: Permits> Steps<J> for Guards<'a
         }
     }
 
-    fn step_get(
-        &mut self,
-        job: J,
-        get: Self::Get,
-        cx: &mut Context<'_>,
-    ) -> Stepped<J, Self::Outcome, Self::Get>
+    fn step_get(&mut self, job: J, get: Self::Get, cx: &mut Context<'_>) -> Stepped<Self::Place>
         ensures steps { StepsGet PollsGet GivesBack job get.entry result.place
             result.ended }
         ensures held { number_in self.new ≡ number_in self.old + guards_for result.place }
@@ -144,10 +129,10 @@ impl<'a, J: Job, G: PoolTypes<Runtime: Wait>, L: Permits> Steps<J> for Guards<'a
 
     fn step(
         &mut self,
-        place: JobPlace<J, Self::Outcome, Self::Get>,
+        place: Self::Place,
         now: Moment,
         cx: &mut Context<'_>,
-    ) -> Stepped<J, Self::Outcome, Self::Get>
+    ) -> Stepped<Self::Place>
         ensures steps { guards_for place.entry ≤ number_in self.old
             → JobSteps J.polls PollsGet GivesBack now place.entry result.place result.ended }
         ensures held { guards_for place.entry ≤ number_in self.old
@@ -168,12 +153,7 @@ impl<'a, J: Job, G: PoolTypes<Runtime: Wait>, L: Permits> Steps<J> for Guards<'a
     }
 
     #[tactic(auto, using(crate::proofs::Listed::running_append))]
-    fn step_first(
-        &mut self,
-        queue: &mut VecDeque<JobEntry<J, Self::Outcome, Self::Get>>,
-        now: Moment,
-        cx: &mut Context<'_>,
-    ) -> u64
+    fn step_first(&mut self, queue: &mut Self::Queue, now: Moment, cx: &mut Context<'_>) -> u64
         ensures steps { 0 < deque_len queue.old → running queue.old.items ≡ number_in self.old
             → StepsFirst J.polls PollsGet GivesBack now queue.old.items queue.new.items result }
         ensures held { running queue.old.items ≡ number_in self.old
@@ -191,12 +171,7 @@ impl<'a, J: Job, G: PoolTypes<Runtime: Wait>, L: Permits> Steps<J> for Guards<'a
         ended
     }
 
-    fn step_each(
-        &mut self,
-        queue: &mut VecDeque<JobEntry<J, Self::Outcome, Self::Get>>,
-        now: Moment,
-        cx: &mut Context<'_>,
-    ) -> u64
+    fn step_each(&mut self, queue: &mut Self::Queue, now: Moment, cx: &mut Context<'_>) -> u64
         ensures steps { running queue.old.items ≡ number_in self.old
             → StepsEach J.polls PollsGet GivesBack now queue.old.items queue.new.items result }
         ensures held { running queue.old.items ≡ number_in self.old
