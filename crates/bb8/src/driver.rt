@@ -260,7 +260,7 @@ struct Gated<D, P> {
     gate: P,
 }
 
-impl<G: PoolTypes<Runtime: Wait>, L: Permits, P: Gate + Drop> Job for Gated<Driver<G, L>, P> {
+impl<D: RunsTurns + Drop, P: Gate + Drop> Job for Gated<D, P> {
     type Output = Driven;
 
     fn run(self, _thread: usize) -> Driven {

@@ -1,4 +1,4 @@
-//! Tests of the live pool and of job runners over it, which use public items only.
+//! Tests of the live pool, which use public items only.
 #![tactic(auto)]
 
 #[cfg(test)]

@@ -8,7 +8,6 @@ mod calls;
 mod clocks;
 mod guards;
 mod handles;
-mod runners;
 mod serving;
 mod signal;
 mod threads;

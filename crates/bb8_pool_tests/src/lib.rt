@@ -1,5 +1,5 @@
-//! Tests of pools, which use public items only: services, drivers, threads that wait, and memory
-//! that is refused.
+//! Tests of pools, which use public items only: services, drivers, job runners, threads that wait,
+//! and memory that is refused.
 #![tactic(auto)]
 
 #[cfg(test)]

@@ -5,6 +5,7 @@ ghost use Rattle.bb8.specs.Settings.{is_lawful};
 mod drivers;
 mod refusals;
 mod resting;
+mod runners;
 mod serving;
 mod waiting;
 

@@ -1,4 +1,4 @@
-use Rattle.bb8_live_tests.proofs.tests.runners.try_runner.Given as goal
+use Rattle.bb8_pool_tests.proofs.tests.runners.try_runner.Given as goal
 
 abbrev pub ghosts-run_on-L-Ledger : goal.ghosts-run_on-L-Ledger
 ghosts-run_on-L-Ledger g a = record { name = a.blank.name; parts = a.blank.parts }
